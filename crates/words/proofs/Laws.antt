@@ -1,0 +1,4 @@
+pub mod Numbers
+pub mod Put
+pub mod Parts
+pub mod Store
