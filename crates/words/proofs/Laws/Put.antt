@@ -94,3 +94,7 @@ put-four p n m =
 -- a number of eight bytes, in its two halves
 pub put-eight : (p n : ℕ) (m : List ℕ) {m′ m″ : List ℕ} → m′ ≡ put p (le 4 (n % 0x1_0000_0000)) m → m″ ≡ put (p + 4) (le 4 (n / 0x1_0000_0000)) m′ → m″ ≡ put p (le 8 n) m
 put-eight p n m e f = f ∙ rw (e, le-add 4 4 n) (put-append p (le 4 (n % 0x1_0000_0000)) (le 4 (n / 0x1_0000_0000)) m)
+
+-- bytes written right behind others
+pub put-behind : (p q : ℕ) (xs ys m : List ℕ) → q ≡ p + length xs → put q ys (put p xs m) ≡ put p (xs ++ ys) m
+put-behind p q xs ys m e = rw e (put-append p xs ys m)

@@ -1,0 +1,5 @@
+pub mod Opening
+pub mod Steps
+pub mod Walks
+pub mod Lister
+pub mod Builder
