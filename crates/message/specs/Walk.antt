@@ -24,9 +24,12 @@ wordPlace = 8
 unfoldable pub tagAt : List ℕ → ℕ → Tag
 tagAt m p = record { at = p; id = word m p; size = word m (p + sizePlace); word = word m (p + wordPlace) }
 
--- the first place behind a tag's value and its padding to 4
+-- the first place behind a tag at `at` whose value has `size` bytes: behind the value's padding to 4
+abbrev pub tagEnd : (at size : ℕ) → ℕ
+tagEnd at size = at + tagHeader + roundUp 4 size
+
 abbrev pub behind : Tag → ℕ
-behind t = t .at + tagHeader + roundUp 4 (t .size)
+behind t = tagEnd (t .at) (t .size)
 
 -- a tag runs over where its header or its padded value ends behind the size
 unfoldable pub overruns : List ℕ → ℕ → ℕ → Bool

@@ -3,6 +3,7 @@
 use crate::opening::Message;
 use crate::outcome;
 use crate::walk::Tag;
+use crate::walk::padded;
 use words::bytes::clear;
 use words::bytes::store;
 use words::numbers::put_u32;
@@ -11,8 +12,9 @@ ghost use Prim.Native.Nat.{_≤_, _^_, min};
 ghost use lib.ListN.{length};
 ghost use Rattle.words.specs.Put.{put};
 ghost use Rattle.words.specs.Round.{roundUp};
-ghost use Rattle.message.specs.Builder.{goodCursor, finishedSize, tagEnd, room, startOutcome, addOutcome, finishOutcome, TagFits, EndFits, tagBytes, closed, leaves, started, added, finished};
+ghost use Rattle.message.specs.Builder.{goodCursor, finishedSize, room, startOutcome, addOutcome, finishOutcome, TagFits, EndFits, tagBytes, closed, leaves, started, added, finished};
 ghost use Rattle.message.specs.Sizes.{header, largest};
+ghost use Rattle.message.specs.Walk.{tagEnd};
 
 // Where the next tag goes.
 pub struct Cursor {
@@ -67,7 +69,7 @@ fn behind(at: usize, size: u32) -> usize
     requires { ⌜ at ≤ largest ⌝ }
     ensures { λ r. ⌜ r ≡ tagEnd at size ⌝ }
 {
-    at + Message::TAG + (size as usize + 3) / 4 * 4
+    at + Message::TAG + padded(size)
 }
 
 fn good_cursor(at: usize, room: usize) -> bool

@@ -3,6 +3,7 @@ use crate::opening::Message;
 use crate::outcome;
 use words::numbers::u32_at;
 ghost use mathlib.Core.Path.{_≡_};
+ghost use Rattle.words.specs.Round.{roundUp};
 ghost use Rattle.message.specs.Walk.{Walking, step, endingOf};
 
 // A tag of a message: its place, its id, the size of its value and its tag word.
@@ -34,6 +35,13 @@ pub struct Ending {
     pub place: usize,
 }
 
+// The bytes that a value of this size takes up with its padding.
+pub fn padded(size: u32) -> usize
+    ensures { λ r. ⌜ r ≡ roundUp 4 size ⌝ }
+{
+    (size as usize + 3) / 4 * 4
+}
+
 // What stands at p of a message of `size` bytes. No entry point: for the walks of this library and
 // of the crates above, which keep p a place of the walk.
 pub fn step_at(bytes: &[u8], size: usize, p: usize) -> Step
@@ -58,7 +66,7 @@ pub fn step_at(bytes: &[u8], size: usize, p: usize) -> Step
         };
     }
     let v = u32_at(bytes, p + Tag::SIZE);
-    let next = value + (v as usize + 3) / 4 * 4;
+    let next = value + padded(v);
     if size < next {
         return Step::Fault {
             outcome: outcome::RUNS_OVER,

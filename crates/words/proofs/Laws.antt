@@ -1,4 +1,5 @@
 pub mod Cases
+pub mod Agree
 pub mod Numbers
 pub mod Put
 pub mod Parts

@@ -14,10 +14,10 @@ use Rattle.words.proofs.Laws.Put.{put-behind, length-put}
 use Rattle.words.specs.Numbers.{le}
 use Rattle.words.specs.Put.{put, over, zeros}
 use Rattle.words.specs.Round.{roundUp}
-use Rattle.message.specs.Builder.{room, goodCursor, finishedSize, tagEnd, startOutcome, addOutcome, finishOutcome, tagBytes, closed, Call, leaves, built, startedIf, started, addedIf, added, finishedIf, finished, TagFits, EndFits}
+use Rattle.message.specs.Builder.{room, goodCursor, finishedSize, startOutcome, addOutcome, finishOutcome, tagBytes, closed, Call, leaves, built, startedIf, started, addedIf, added, finishedIf, finished, TagFits, EndFits}
 use Rattle.message.specs.Outcomes.{done, noRoom, badTag, badCursor}
 use Rattle.message.specs.Sizes.{header, tagHeader, endWord, codePlace, largest}
-use Rattle.message.specs.Walk.{sizePlace, wordPlace}
+use Rattle.message.specs.Walk.{sizePlace, wordPlace, tagEnd}
 use Rattle.message.specs.declared.builder.Built.{Built}
 use Rattle.message.specs.declared.builder.Cursor.{Cursor}
 use Rattle.message.specs.declared.builder.Finished.{Finished}
@@ -200,3 +200,24 @@ module _ (m : List ℕ) (c : Cursor) {j : ℕ} (ej : j ≡ finishOutcome (length
       pub finish-done : {m′ : List ℕ} → m′ ≡ closed (c .at) size m → leaves m′ (record { outcome = done; place = 0; size = size }) ≡ finished m c
       unfolding finished
       finish-done e = rw (← ej, eq-eqb j done z, z, ← es, ← e)
+
+-- ---- an accepted start and an accepted finish
+pub started-at : (m : List ℕ) → started m .outcome ≡ done → started m .cursor .at ≡ header
+unfolding started startOutcome
+started-at m e = go (ltb (room (length m)) (finishedSize header)) e
+  where
+    go : (b : Bool) → startedIf (eqb (cond b noRoom done) done) (cond b noRoom done) .outcome ≡ done → startedIf (eqb (cond b noRoom done) done) (cond b noRoom done) .cursor .at ≡ header
+    go true q = absurd (omega arith)
+    go false q = refl
+
+pub record Accepted (m : List ℕ) (c : Cursor) : Type 0 where
+  pub closes : Closed (length m) (c .at)
+  pub bytes : finished m c .bytes ≡ closed (c .at) (finishedSize (c .at)) m
+
+pub accepted : (m : List ℕ) (c : Cursor) → finished m c .answer .outcome ≡ done → Accepted m c
+unfolding finished
+accepted m c e = go (finishOutcome (length m) (c .at)) refl (eqb (finishOutcome (length m) (c .at)) done) refl e
+  where
+    go : (o : ℕ) → finishOutcome (length m) (c .at) ≡ o → (b : Bool) → eqb o done ≡ b → finishedIf b o m c .answer .outcome ≡ done → Accepted m c
+    go o eo true eb q = record { closes = finishes (length m) (c .at) (eo ∙ eqb-true o done eb); bytes = rw (eo, eb) }
+    go o eo false eb q = absurd (eqb-false o done eb q)

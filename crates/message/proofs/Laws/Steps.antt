@@ -38,14 +38,14 @@ module _ (m : List ℕ) (size p : ℕ) where
       unfolding step overruns tagAt
       step-cut h = rw (ne-eqb p size n, ← e, ne-eqb id 0 z, lt-ltb size (p + tagHeader) h)
 
-      pub step-over : {v : ℕ} → v ≡ word m (p + sizePlace) → size < p + tagHeader + roundUp 4 v → Step.Fault runsOver p ≡ step m size p
-      unfolding step overruns tagAt
-      step-over ev h = rw (ne-eqb p size n, ← e, ne-eqb id 0 z, ← ev, lt-ltb _ _ h, or-right (ltb size (p + tagHeader)) true refl)
+      module _ {v padded : ℕ} (ev : v ≡ word m (p + sizePlace)) (ep : padded ≡ roundUp 4 v) where
+        pub step-over : size < p + tagHeader + padded → Step.Fault runsOver p ≡ step m size p
+        unfolding step overruns tagAt
+        step-over h = rw (ne-eqb p size n, ← e, ne-eqb id 0 z, ← ev, lt-ltb _ _ (rw ep at h), or-right (ltb size (p + tagHeader)) true refl)
 
-      pub step-tag : {v w : ℕ} → v ≡ word m (p + sizePlace) → p + tagHeader + roundUp 4 v ≤ size → w ≡ word m (p + wordPlace)
-          → Step.Tag (record { at = p; id = id; size = v; word = w }) (p + tagHeader + roundUp 4 v) ≡ step m size p
-      unfolding step overruns tagAt
-      step-tag {v} ev h ew = rw (ne-eqb p size n, ← e, ne-eqb id 0 z, ← ev, ← ew, le-ltb size (p + tagHeader) (omega arith), le-ltb _ _ h)
+        pub step-tag : {w : ℕ} → p + tagHeader + padded ≤ size → w ≡ word m (p + wordPlace) → Step.Tag (record { at = p; id = id; size = v; word = w }) (p + tagHeader + padded) ≡ step m size p
+        unfolding step overruns tagAt
+        step-tag h ew = rw (ep, ne-eqb p size n, ← e, ne-eqb id 0 z, ← ev, ← ew, le-ltb size (p + tagHeader) (omega arith), le-ltb _ _ (rw ep at h))
 
 -- what a tag that was found is
 pub record Found (m : List ℕ) (size p : ℕ) (t : Tag) (next : ℕ) : Type 0 where

@@ -41,3 +41,7 @@ module _ (m : List ℕ) (size p : ℕ) where
   walk-stop Step.End o e = rw e
   walk-stop (Step.Fault n q) o e = rw e
   walk-stop (Step.Tag t q) o e = absurd (⊎-elim (λ z. omega arith) (λ z. omega arith) o)
+
+  pub walk-end : step m size p ≡ Step.End → walkFrom m size p ≡ stopped Step.End
+  unfolding walkFrom
+  walk-end e = rw e

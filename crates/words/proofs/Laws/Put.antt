@@ -1,13 +1,13 @@
 -- Laws of bytes written over others.
 use mathlib.Core.Path.{_≡_, refl, sym, ap, _∙_}
 use mathlib.Core.List.{List, [], _∷_, _++_}
-use Prim.Native.Nat.{ℕ, zero, suc, _+_, _/_, _%_, _≤_}
+use Prim.Native.Nat.{ℕ, zero, suc, _+_, _/_, _%_, _^_, _≤_, _<_}
 use native.Mathlib.Nat.{not-suc-le-zero, zero-add, suc-add}
 use native.Mathlib.Numerals.{add-one}
 use native.Mathlib.Omega.{arith}
 use lib.ListN.{length, take, drop, set}
-use Rattle.words.proofs.Laws.Numbers.{le-add}
-use Rattle.words.specs.Numbers.{le}
+use Rattle.words.proofs.Laws.Numbers.{le-add, length-le, unle-le}
+use Rattle.words.specs.Numbers.{le, unle, numberAt}
 use Rattle.words.specs.Put.{over, put}
 
 length-over : (bs m : List ℕ) → length (over bs m) ≡ length m
@@ -98,3 +98,11 @@ put-eight p n m e f = f ∙ rw (e, le-add 4 4 n) (put-append p (le 4 (n % 0x1_00
 -- bytes written right behind others
 pub put-behind : (p q : ℕ) (xs ys m : List ℕ) → q ≡ p + length xs → put q ys (put p xs m) ≡ put p (xs ++ ys) m
 put-behind p q xs ys m e = rw e (put-append p xs ys m)
+
+-- a number that was written is read back
+pub number-put : (k p n : ℕ) (m : List ℕ) → n < 256 ^ k → p + k ≤ length m → numberAt k (put p (le k n) m) p ≡ n
+unfolding numberAt
+number-put k p n m h l =
+    let e : length (le k n) ≡ k = length-le k n in
+    let r : take k (drop p (put p (le k n) m)) ≡ le k n = rw e at (read-put p (le k n) m (omega arith)) in
+    rw r (unle-le k n h)

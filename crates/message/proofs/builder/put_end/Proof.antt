@@ -34,7 +34,13 @@ same-length : tie.Need-same-length
 same-length c = search needs
 
 returns : tie.Need-returns
-returns c = search end-written
+returns c =
+    let at-code = c .before .before in
+    let at-size = at-code .before .before .before .before in
+    let at-clear = at-size .before .before .before .before in
+    let at-end = at-clear .before .before .before .before in
+    let start = at-end .before .before .before in
+    end-written _ _ _ (start .pre) (at-end .put-u32 .ensures) (at-clear .clear .ensures) (at-size .put-u322 .ensures) (at-code .put-u323 .ensures)
 
 pub put-end-spec : {M : Type 1} → statement M
 put-end-spec =

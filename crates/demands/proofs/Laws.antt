@@ -1,0 +1,3 @@
+pub mod Tags
+pub mod Runs
+pub mod Lists
