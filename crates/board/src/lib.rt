@@ -1,0 +1,5 @@
+// The board record: what the emulated board knows, made of parts that each own their rules.
+pub mod display;
+pub mod facts;
+pub mod items;
+pub mod record;
