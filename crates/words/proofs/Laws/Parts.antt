@@ -24,7 +24,8 @@ put-mid zero k bs m = mid-over k bs m
 put-mid (suc p) k bs [] = simp (take-nil, drop-nil, over-nil)
 put-mid (suc p) k bs (x ∷ m) = ap (λ (l : List ℕ). x ∷ l) (put-mid p k bs m)
 
-over-all : (bs m : List ℕ) → length bs ≡ length m → over bs m ≡ bs
+-- as many bytes as there are: all are replaced
+pub over-all : (bs m : List ℕ) → length bs ≡ length m → over bs m ≡ bs
 over-all [] [] e = refl
 over-all [] (x ∷ m) e = absurd (omega arith)
 over-all (b ∷ bs) [] e = absurd (omega arith)

@@ -1,0 +1,6 @@
+pub mod Answers
+pub mod Find
+pub mod Items
+pub mod Lengths
+pub mod Offsets
+pub mod Places

@@ -1,0 +1,77 @@
+-- An answer has its row's length; the command line has its own.
+use mathlib.Core.Bool.{Bool, true, false, cond, _&&_}
+use mathlib.Core.List.{List, [], _∷_, _++_}
+use mathlib.Core.Path.{_≡_, refl, sym, ap, _∙_}
+use Prim.Native.Nat.{ℕ, zero, suc, _≤_, _<_}
+use native.Mathlib.Omega.{arith}
+use lib.Dec.{T, eqb}
+use lib.ListN.{length, take, getD}
+use lib.Seq.{length-take-le}
+use Rattle.board.specs.declared.facts.Facts.{Facts}
+use Rattle.board.specs.declared.record.Board.{Board}
+use Rattle.tags.specs.Answer.{answerBytes}
+use Rattle.tags.specs.Fact.{factAnswer}
+use Rattle.tags.specs.Outside.{outsideAnswer}
+use Rattle.tags.specs.Table.{Entry, outsideTags}
+use Rattle.tags.specs.declared.answer.Answer.{Answer}
+use Rattle.tags.specs.declared.table.ClockTag.{ClockTag}
+use Rattle.tags.specs.declared.table.FactTag.{FactTag}
+use Rattle.tags.specs.declared.table.FrameTag.{FrameTag}
+use Rattle.tags.specs.declared.table.Kind.{Kind}
+use Rattle.tags.specs.declared.table.PowerTag.{PowerTag}
+use Rattle.tags.specs.declared.table.TemperatureTag.{TemperatureTag}
+use Rattle.tags.specs.declared.table.VoltageTag.{VoltageTag}
+
+abbrev factLength : Facts → ℕ → FactTag → ℕ
+factLength f n FactTag.Line = f .characters
+factLength f n FactTag.Firmware = n
+factLength f n FactTag.Model = n
+factLength f n FactTag.Revision = n
+factLength f n FactTag.Mac = n
+factLength f n FactTag.Serial = n
+factLength f n FactTag.Arm = n
+factLength f n FactTag.Vc = n
+factLength f n FactTag.Dma = n
+
+-- the command line answers as many bytes as it has, every other tag what its row says
+abbrev pub lengthOf : Facts → Entry → ℕ
+lengthOf f e = elim (e .kind) [ Kind.Fact t ↦ factLength f (e .answer) t | Kind.Power t ↦ e .answer | Kind.Clock t ↦ e .answer | Kind.Voltage t ↦ e .answer | Kind.Temperature t ↦ e .answer | Kind.Frame t ↦ e .answer ]
+
+-- the entry's tag answers that many bytes
+abbrev pub Answers : (a x : ℕ) → Board → Entry → Type 0
+Answers a x b e = length (answerBytes (b .facts) (b .line) (outsideAnswer (e .kind) a x b)) ≡ lengthOf (b .facts) e
+
+abbrev pub Each : (Entry → Type 0) → List Entry → Type 0
+Each P [] = Unit {0}
+Each P (e ∷ es) = P e × Each P es
+
+pub lengths : (a x : ℕ) (b : Board) → length (b .facts .mac) ≡ 6 → b .facts .characters ≤ length (b .line) → Each (Answers a x b) outsideTags
+unfolding outsideTags answerBytes outsideAnswer factAnswer
+lengths a x b mac line = (
+  refl,
+  (
+    refl,
+    (
+      refl,
+      (
+        mac,
+        (
+          refl,
+          (
+            refl,
+            (
+              refl,
+              (
+                length-take-le (b .facts .characters) (b .line) line,
+                (
+                  refl,
+                  (refl, (refl, (refl, (refl, (refl, (refl, (refl, (refl, (refl, (refl, (refl, (refl, (refl, (refl, (refl, tt))))))))))))))),
+                ),
+              ),
+            ),
+          ),
+        ),
+      ),
+    ),
+  ),
+)

@@ -1,0 +1,38 @@
+-- Clocks, ids 1 to 14.
+use mathlib.Core.Bool.{Bool, true, false, cond}
+use Prim.Native.Nat.{ℕ, min, max}
+use Rattle.board.specs.declared.items.Clock.{Clock}
+use Rattle.tags.specs.State.{stateOf, present, switched, absent}
+use Rattle.tags.specs.declared.table.ClockTag.{ClockTag}
+
+abbrev pub firstClock : ℕ
+firstClock = 1
+
+abbrev pub noClock : Clock
+noClock = record { state = absent; rate = 0; min = 0; max = 0 }
+
+-- a number clamped to a minimum and a maximum
+abbrev pub clamp : (low high x : ℕ) → ℕ
+clamp low high x = min high (max low x)
+
+-- where a set rate lands: an existing clock takes it, clamped to its minimum and maximum
+unfoldable pub settled : ℕ → Clock → Clock
+settled x c = cond (c .state .exists) (record { state = c .state; rate = clamp (c .min) (c .max) x; min = c .min; max = c .max }) c
+
+-- the clock as a tag leaves it, x being what a set asks for
+unfoldable pub clockAfter : ClockTag → ℕ → Clock → Clock
+clockAfter ClockTag.SetState x c = record { state = switched x (c .state); rate = c .rate; min = c .min; max = c .max }
+clockAfter ClockTag.SetRate x c = settled x c
+clockAfter ClockTag.State x c = c
+clockAfter ClockTag.Rate x c = c
+clockAfter ClockTag.Max x c = c
+clockAfter ClockTag.Min x c = c
+
+-- what a tag answers of the clock that it left
+unfoldable pub clockValue : ClockTag → Clock → ℕ
+clockValue ClockTag.State c = stateOf (c .state)
+clockValue ClockTag.SetState c = stateOf (c .state)
+clockValue ClockTag.Rate c = present (c .state) (c .rate)
+clockValue ClockTag.SetRate c = present (c .state) (c .rate)
+clockValue ClockTag.Max c = present (c .state) (c .max)
+clockValue ClockTag.Min c = present (c .state) (c .min)

@@ -1,0 +1,11 @@
+pub mod Table
+pub mod Answer
+pub mod Fact
+pub mod Place
+pub mod State
+pub mod Power
+pub mod Clock
+pub mod Voltage
+pub mod Temperature
+pub mod Outside
+pub mod Reply

@@ -1,0 +1,45 @@
+-- A known tag outside the frame buffer group, on the record. Its request has up to two words: of power, clocks, voltage and temperature the first, a, is the id, and the second, x, what a set asks for.
+use mathlib.Core.List.{List}
+use Prim.Native.Nat.{ℕ}
+use Rattle.board.specs.declared.items.Clock.{Clock}
+use Rattle.board.specs.declared.items.Device.{Device}
+use Rattle.board.specs.declared.items.Voltage.{Voltage}
+use Rattle.board.specs.declared.record.Board.{Board}
+use Rattle.tags.specs.Clock.{firstClock, noClock, clockAfter, clockValue}
+use Rattle.tags.specs.Fact.{factAnswer}
+use Rattle.tags.specs.Place.{item, change}
+use Rattle.tags.specs.Power.{firstDevice, noDevice, powerAfter, powerValue}
+use Rattle.tags.specs.Temperature.{temperatureValue}
+use Rattle.tags.specs.Voltage.{firstVoltage, noVoltage, voltageAfter, voltageValue}
+use Rattle.tags.specs.declared.answer.Answer.{Answer}
+use Rattle.tags.specs.declared.table.Kind.{Kind}
+
+-- each answers the id and one value of the item that it left
+unfoldable pub outsideAnswer : Kind → (a x : ℕ) → Board → Answer
+outsideAnswer (Kind.Fact t) a x b = factAnswer t (b .facts)
+outsideAnswer (Kind.Power t) a x b = Answer.Pair a (powerValue t (powerAfter t x (item noDevice firstDevice (b .devices) a)))
+outsideAnswer (Kind.Clock t) a x b = Answer.Pair a (clockValue t (clockAfter t x (item noClock firstClock (b .clocks) a)))
+outsideAnswer (Kind.Voltage t) a x b = Answer.Pair a (voltageValue t (voltageAfter t x (item noVoltage firstVoltage (b .voltages) a)))
+outsideAnswer (Kind.Temperature t) a x b = Answer.Pair a (temperatureValue t a (b .temperature))
+outsideAnswer (Kind.Frame t) a x b = Answer.Nothing
+
+abbrev pub withDevices : Board → List Device → Board
+withDevices b xs =
+    record { facts = b .facts; line = b .line; devices = xs; clocks = b .clocks; voltages = b .voltages; temperature = b .temperature; display = b .display }
+
+abbrev pub withClocks : Board → List Clock → Board
+withClocks b xs =
+    record { facts = b .facts; line = b .line; devices = b .devices; clocks = xs; voltages = b .voltages; temperature = b .temperature; display = b .display }
+
+abbrev pub withVoltages : Board → List Voltage → Board
+withVoltages b xs =
+    record { facts = b .facts; line = b .line; devices = b .devices; clocks = b .clocks; voltages = xs; temperature = b .temperature; display = b .display }
+
+-- the record that it leaves: only the item of its id can change
+unfoldable pub outsideAfter : Kind → (a x : ℕ) → Board → Board
+outsideAfter (Kind.Fact t) a x b = b
+outsideAfter (Kind.Power t) a x b = withDevices b (change noDevice firstDevice (powerAfter t x) (b .devices) a)
+outsideAfter (Kind.Clock t) a x b = withClocks b (change noClock firstClock (clockAfter t x) (b .clocks) a)
+outsideAfter (Kind.Voltage t) a x b = withVoltages b (change noVoltage firstVoltage (voltageAfter t x) (b .voltages) a)
+outsideAfter (Kind.Temperature t) a x b = b
+outsideAfter (Kind.Frame t) a x b = b

@@ -1,0 +1,24 @@
+-- Power devices, ids 0 to 10.
+use mathlib.Core.List.{List}
+use Prim.Native.Nat.{ℕ}
+use Rattle.board.specs.declared.items.Device.{Device}
+use Rattle.tags.specs.State.{stateOf, present, switched, absent}
+use Rattle.tags.specs.declared.table.PowerTag.{PowerTag}
+
+abbrev pub firstDevice : ℕ
+firstDevice = 0
+
+abbrev pub noDevice : Device
+noDevice = record { state = absent; timing = 0 }
+
+-- the device as a tag leaves it, x being the state that a set asks for
+unfoldable pub powerAfter : PowerTag → ℕ → Device → Device
+powerAfter PowerTag.State x d = d
+powerAfter PowerTag.Timing x d = d
+powerAfter PowerTag.SetState x d = record { state = switched x (d .state); timing = d .timing }
+
+-- what a tag answers of the device that it left
+unfoldable pub powerValue : PowerTag → Device → ℕ
+powerValue PowerTag.State d = stateOf (d .state)
+powerValue PowerTag.Timing d = present (d .state) (d .timing)
+powerValue PowerTag.SetState d = stateOf (d .state)

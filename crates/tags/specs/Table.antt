@@ -1,0 +1,96 @@
+-- The table of known tags.
+use mathlib.Core.Bool.{Bool, true, false, cond}
+use mathlib.Core.List.{List, [], _∷_, _++_}
+use Prim.Native.Nat.{ℕ}
+use lib.Dec.{eqb}
+use Rattle.tags.specs.declared.table.ClockTag.{ClockTag}
+use Rattle.tags.specs.declared.table.FactTag.{FactTag}
+use Rattle.tags.specs.declared.table.FrameTag.{FrameTag}
+use Rattle.tags.specs.declared.table.Kind.{Kind}
+use Rattle.tags.specs.declared.table.Mode.{Mode}
+use Rattle.tags.specs.declared.table.PowerTag.{PowerTag}
+use Rattle.tags.specs.declared.table.Row.{Row}
+use Rattle.tags.specs.declared.table.Setting.{Setting}
+use Rattle.tags.specs.declared.table.TemperatureTag.{TemperatureTag}
+use Rattle.tags.specs.declared.table.VoltageTag.{VoltageTag}
+
+-- a known tag: its id, the lengths of its request and of its answer, and what it asks
+pub record Entry : Type 0 where
+  pub id : ℕ
+  pub request : ℕ
+  pub answer : ℕ
+  pub kind : Kind
+
+abbrev pub entry : (id request answer : ℕ) → Kind → Entry
+entry id request answer kind = record { id = id; request = request; answer = answer; kind = kind }
+
+-- The command line's answer has its own length, 256 at most.
+unfoldable pub outsideTags : List Entry
+outsideTags =
+    -- fixed facts
+    entry 0x0000_0001 0 4 (Kind.Fact FactTag.Firmware)
+    ∷ entry 0x0001_0001 0 4 (Kind.Fact FactTag.Model)
+    ∷ entry 0x0001_0002 0 4 (Kind.Fact FactTag.Revision)
+    ∷ entry 0x0001_0003 0 6 (Kind.Fact FactTag.Mac)
+    ∷ entry 0x0001_0004 0 8 (Kind.Fact FactTag.Serial)
+    ∷ entry 0x0001_0005 0 8 (Kind.Fact FactTag.Arm)
+    ∷ entry 0x0001_0006 0 8 (Kind.Fact FactTag.Vc)
+    ∷ entry 0x0005_0001 0 256 (Kind.Fact FactTag.Line)
+    ∷ entry 0x0006_0001 0 4 (Kind.Fact FactTag.Dma)
+    -- power
+    ∷ entry 0x0002_0001 4 8 (Kind.Power PowerTag.State)
+    ∷ entry 0x0002_0002 4 8 (Kind.Power PowerTag.Timing)
+    ∷ entry 0x0002_8001 8 8 (Kind.Power PowerTag.SetState)
+    -- clocks
+    ∷ entry 0x0003_0001 4 8 (Kind.Clock ClockTag.State)
+    ∷ entry 0x0003_8001 8 8 (Kind.Clock ClockTag.SetState)
+    ∷ entry 0x0003_0002 4 8 (Kind.Clock ClockTag.Rate)
+    ∷ entry 0x0003_0004 4 8 (Kind.Clock ClockTag.Max)
+    ∷ entry 0x0003_0007 4 8 (Kind.Clock ClockTag.Min)
+    ∷ entry 0x0003_8002 8 8 (Kind.Clock ClockTag.SetRate)
+    -- voltage
+    ∷ entry 0x0003_0003 4 8 (Kind.Voltage VoltageTag.Get)
+    ∷ entry 0x0003_8003 8 8 (Kind.Voltage VoltageTag.Set)
+    ∷ entry 0x0003_0005 4 8 (Kind.Voltage VoltageTag.Max)
+    ∷ entry 0x0003_0008 4 8 (Kind.Voltage VoltageTag.Min)
+    -- temperature
+    ∷ entry 0x0003_0006 4 8 (Kind.Temperature TemperatureTag.Current)
+    ∷ entry 0x0003_000a 4 8 (Kind.Temperature TemperatureTag.Max)
+    ∷ []
+
+-- the frame buffer group: get, test and set of each setting, then pitch, allocate, release
+unfoldable pub groupTags : List Entry
+groupTags =
+    entry 0x0004_0003 0 8 (Kind.Frame (FrameTag.Of Mode.Get Setting.Physical))
+    ∷ entry 0x0004_4003 8 8 (Kind.Frame (FrameTag.Of Mode.Test Setting.Physical))
+    ∷ entry 0x0004_8003 8 8 (Kind.Frame (FrameTag.Of Mode.Set Setting.Physical))
+    ∷ entry 0x0004_0004 0 8 (Kind.Frame (FrameTag.Of Mode.Get Setting.Virtual))
+    ∷ entry 0x0004_4004 8 8 (Kind.Frame (FrameTag.Of Mode.Test Setting.Virtual))
+    ∷ entry 0x0004_8004 8 8 (Kind.Frame (FrameTag.Of Mode.Set Setting.Virtual))
+    ∷ entry 0x0004_0005 0 4 (Kind.Frame (FrameTag.Of Mode.Get Setting.Depth))
+    ∷ entry 0x0004_4005 4 4 (Kind.Frame (FrameTag.Of Mode.Test Setting.Depth))
+    ∷ entry 0x0004_8005 4 4 (Kind.Frame (FrameTag.Of Mode.Set Setting.Depth))
+    ∷ entry 0x0004_0006 0 4 (Kind.Frame (FrameTag.Of Mode.Get Setting.Order))
+    ∷ entry 0x0004_4006 4 4 (Kind.Frame (FrameTag.Of Mode.Test Setting.Order))
+    ∷ entry 0x0004_8006 4 4 (Kind.Frame (FrameTag.Of Mode.Set Setting.Order))
+    ∷ entry 0x0004_0007 0 4 (Kind.Frame (FrameTag.Of Mode.Get Setting.Alpha))
+    ∷ entry 0x0004_4007 4 4 (Kind.Frame (FrameTag.Of Mode.Test Setting.Alpha))
+    ∷ entry 0x0004_8007 4 4 (Kind.Frame (FrameTag.Of Mode.Set Setting.Alpha))
+    ∷ entry 0x0004_0009 0 8 (Kind.Frame (FrameTag.Of Mode.Get Setting.Offset))
+    ∷ entry 0x0004_4009 8 8 (Kind.Frame (FrameTag.Of Mode.Test Setting.Offset))
+    ∷ entry 0x0004_8009 8 8 (Kind.Frame (FrameTag.Of Mode.Set Setting.Offset))
+    ∷ entry 0x0004_0008 0 4 (Kind.Frame FrameTag.Pitch)
+    ∷ entry 0x0004_0001 4 8 (Kind.Frame FrameTag.Allocate)
+    ∷ entry 0x0004_8001 0 0 (Kind.Frame FrameTag.Release)
+    ∷ []
+
+unfoldable pub table : List Entry
+table = outsideTags ++ groupTags
+
+abbrev pub find : ℕ → List Entry → Row
+find id [] = Row.Unknown
+find id (e ∷ es) = cond (eqb id (e .id)) (Row.Known (e .kind) (e .request)) (find id es)
+
+-- the row of an id: that of its entry, or unknown
+unfoldable pub rowOf : ℕ → Row
+rowOf id = find id table

@@ -1,0 +1,14 @@
+-- The temperature.
+use mathlib.Core.Bool.{Bool, true, false, cond}
+use Prim.Native.Nat.{ℕ}
+use lib.Dec.{eqb}
+use Rattle.board.specs.declared.items.Temperature.{Temperature}
+use Rattle.tags.specs.declared.table.TemperatureTag.{TemperatureTag}
+
+abbrev pub temperatureOf : TemperatureTag → Temperature → ℕ
+temperatureOf TemperatureTag.Current t = t .current
+temperatureOf TemperatureTag.Max t = t .max
+
+-- an id that is not 0 answers 0
+unfoldable pub temperatureValue : TemperatureTag → (id : ℕ) → Temperature → ℕ
+temperatureValue tag id t = cond (eqb id 0) (temperatureOf tag t) 0
