@@ -3,3 +3,4 @@ pub mod display;
 pub mod facts;
 pub mod items;
 pub mod record;
+pub mod settings;
