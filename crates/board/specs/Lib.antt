@@ -1,2 +1,3 @@
 pub mod Display
+pub mod Items
 pub mod Valid

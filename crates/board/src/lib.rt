@@ -2,5 +2,7 @@
 pub mod display;
 pub mod facts;
 pub mod items;
+mod logic;
 pub mod record;
 pub mod settings;
+pub mod valid;
