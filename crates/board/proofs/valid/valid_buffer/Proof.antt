@@ -1,4 +1,4 @@
-use borrow.Author.Tests.{not-true, not-false, le-leb, lt-leb, le-ltb, lt-ltb, ne-eqb}
+use borrow.Author.Tests.{ne-eqb, le-leb, lt-leb}
 use Rattle.words.proofs.Laws.Cases.{cases}
 use Rattle.board.specs.Valid.{validBuffer}
 use borrow.Author.Needs.{needs}

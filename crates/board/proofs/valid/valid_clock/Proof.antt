@@ -1,5 +1,5 @@
 use mathlib.Core.Path.{sym, _∙_}
-use borrow.Author.Tests.{not-true, not-false, le-leb, lt-leb, le-ltb, lt-ltb, ne-eqb}
+use borrow.Author.Tests.{not-true, not-false, le-leb, lt-leb}
 use Rattle.board.specs.Valid.{validClock}
 use borrow.Author.Needs.{needs}
 use Rattle.board.proofs.valid.valid_clock.Statement.{statement}

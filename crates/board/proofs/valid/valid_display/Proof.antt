@@ -1,5 +1,5 @@
 use mathlib.Core.Path.{sym, _∙_}
-use borrow.Author.Tests.{not-true, not-false, le-leb, lt-leb, le-ltb, lt-ltb, ne-eqb}
+use borrow.Author.Tests.{le-ltb, lt-ltb}
 use Rattle.board.proofs.Laws.Display.{supported-is}
 use Rattle.board.specs.Valid.{validDisplay}
 use borrow.Author.Needs.{needs}

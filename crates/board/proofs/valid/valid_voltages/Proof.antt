@@ -1,7 +1,7 @@
 use Prim.Native.Nat.{_≤_, _<_, _-_}
 use lib.ListN.{length, drop}
 use mathlib.Core.Path.{_≡_}
-use Rattle.board.proofs.Laws.All.{all-fails, all-goes-on, all-pass}
+use Rattle.board.proofs.Laws.Valid.{all-fails, all-goes-on, all-pass}
 use Rattle.board.specs.Items.{noVoltage}
 use Rattle.board.specs.Valid.{validVoltage, all}
 use borrow.Author.Needs.{needs}
