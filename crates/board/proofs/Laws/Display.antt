@@ -1,14 +1,13 @@
 -- Laws of frame buffer settings.
 use mathlib.Core.Bool.{Bool, true, false, _&&_, _||_, and-eq-true-iff}
 use mathlib.Core.Logic.{_⊎_, inl, inr, ⊎-elim}
-use mathlib.Core.Path.{_≡_, refl, sym, ap, _∙_}
+use mathlib.Core.Path.{_≡_, refl, sym, ap}
 use Prim.Native.Nat.{ℕ, _*_, _≤_, _<_}
 use native.Mathlib.Nat.{mul-le-mul}
 use native.Mathlib.Omega.{arith}
-use borrow.Author.Tests.{leb-true, ltb-true, eqb-true, eq-eqb, ne-eqb, le-leb}
+use borrow.Author.Tests.{leb-true, ltb-true, eqb-true, ne-eqb, le-leb}
 use lib.Dec.{eqb, leb, ltb}
 use Rattle.board.specs.Display.{pitch, need, side, sides, depths, offsets, possible, supported}
-use Rattle.board.specs.declared.display.Offset.{Offset}
 use Rattle.board.specs.declared.display.Settings.{Settings}
 use Rattle.board.specs.declared.display.Size.{Size}
 
@@ -27,7 +26,7 @@ sides-is s e =
     let h = and-eq-true-iff (leb 1 (s .height)) (leb (s .height) 4096) .0 (both .1) in
     record { width-least = leb-true _ _ (w .0); width-most = leb-true _ _ (w .1); height-least = leb-true _ _ (h .0); height-most = leb-true _ _ (h .1) }
 
--- a test of four numbers passes at each of them, and at no other
+-- what follows from each of four tests follows where one of them holds
 one-of : (a b c d : Bool) {P : Type 0} → (a ≡ true → P) → (b ≡ true → P) → (c ≡ true → P) → (d ≡ true → P) → (a || b || c || d) ≡ true → P
 one-of true b c d p q r s e = p refl
 one-of false true c d p q r s e = q refl

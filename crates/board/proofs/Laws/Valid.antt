@@ -1,10 +1,10 @@
 -- Laws of a valid record: tests of each of a list, and the parts.
-use mathlib.Core.Bool.{Bool, true, false, not, cond, _&&_, and-eq-true-iff}
+use mathlib.Core.Bool.{Bool, true, false, not, _&&_, and-eq-true-iff}
 use mathlib.Core.List.{List, [], _∷_}
 use mathlib.Core.Path.{_≡_, refl, sym, ap, _∙_}
 use Prim.Native.Nat.{ℕ, zero, suc, _+_, _^_, _≤_, _<_}
 use native.Mathlib.Numerals.{add-one}
-use borrow.Author.Tests.{ltb-true, lt-ltb, leb-true, le-leb, ne-eqb, not-true, not-false}
+use borrow.Author.Tests.{ltb-true, lt-ltb, le-ltb, leb-true, le-leb, lt-leb, ne-eqb, not-true, not-false}
 use lib.Dec.{leb, ltb}
 use lib.ListN.{length, getD, set, drop, drop-of-length-le}
 use lib.Seq.{drop-cons}
@@ -13,6 +13,7 @@ use Rattle.board.specs.Items.{noDevice, noClock, noVoltage}
 use Rattle.board.specs.Valid.{validFacts, validState, validDevice, validClock, validVoltage, validBuffer, validDisplay, all, valid}
 use Rattle.board.specs.declared.display.Display.{Display}
 use Rattle.board.specs.declared.facts.Span.{Span}
+use Rattle.board.specs.declared.items.Clock.{Clock}
 use Rattle.board.specs.declared.record.Board.{Board}
 
 -- ---- each of a list
@@ -129,3 +130,46 @@ no-clock-valid = refl
 pub no-voltage-valid : validVoltage noVoltage ≡ true
 unfolding validVoltage
 no-voltage-valid = refl
+
+-- ---- what the tests give, one after the other
+module _ (c : Clock) {v : Bool} (ev : v ≡ validState (c .state)) where
+  pub clock-state : not v ≡ true → false ≡ validClock c
+  unfolding validClock
+  clock-state n = rw (← ev, not-true v n)
+
+  module _ (n : not v ≡ false) where
+    pub clock-absent : c .state .exists ≡ false → true ≡ validClock c
+    unfolding validClock
+    clock-absent e = rw (← ev, not-false v n, e)
+
+    module _ (e : c .state .exists ≡ true) where
+      pub clock-below : c .rate < c .min → leb (c .min) (c .rate) ≡ validClock c
+      unfolding validClock
+      clock-below h = rw (← ev, not-false v n, e, lt-leb _ _ h)
+
+      pub clock-above : c .min ≤ c .rate → leb (c .rate) (c .max) ≡ validClock c
+      unfolding validClock
+      clock-above h = rw (← ev, not-false v n, e, le-leb _ _ h)
+
+module _ (region : Span) (needed : ℕ) (buffer : Span) (n : buffer .size ≡ 0 → ⊥) (h : region .base ≤ buffer .base) {r b : ℕ} (er : r ≡ region .base + region .size) (eb : b ≡ buffer .base + buffer .size) where
+  pub buffer-behind : r < b → false ≡ validBuffer region needed buffer
+  unfolding validBuffer
+  buffer-behind l = rw (ne-eqb _ _ n, le-leb _ _ h, ← er, ← eb, lt-leb _ _ l)
+
+  pub buffer-within : b ≤ r → leb needed (buffer .size) ≡ validBuffer region needed buffer
+  unfolding validBuffer
+  buffer-within l = rw (ne-eqb _ _ n, le-leb _ _ h, ← er, ← eb, le-leb _ _ l)
+
+module _ (d : Display) {b : ℕ} (eb : b ≡ d .region .base + d .region .size) where
+  pub display-over : 2 ^ 32 ≤ b → false ≡ validDisplay d
+  unfolding validDisplay
+  display-over h = rw (← eb, le-ltb _ _ h)
+
+  module _ (h : b < 2 ^ 32) {s : Bool} (es : s ≡ supported (d .region .size) (d .settings)) where
+    pub display-unsupported : s ≡ false → false ≡ validDisplay d
+    unfolding validDisplay
+    display-unsupported e = rw (← eb, lt-ltb _ _ h, ← es, e)
+
+    pub display-buffer : s ≡ true → {n : ℕ} → n ≡ need (d .settings) → {v : Bool} → v ≡ validBuffer (d .region) n (d .buffer) → v ≡ validDisplay d
+    unfolding validDisplay
+    display-buffer e en ev = rw (← eb, lt-ltb _ _ h, ← es, e, ← en) ev
