@@ -1,6 +1,7 @@
 pub mod Answers
 pub mod Find
 pub mod Items
+pub mod Kept
 pub mod Lengths
 pub mod Offsets
 pub mod Places

@@ -2,14 +2,11 @@
 use mathlib.Core.Bool.{Bool, true, false, cond}
 use Prim.Native.Nat.{ℕ, min, max}
 use Rattle.board.specs.declared.items.Clock.{Clock}
-use Rattle.tags.specs.State.{stateOf, present, switched, absent}
+use Rattle.tags.specs.State.{stateOf, present, switched}
 use Rattle.tags.specs.declared.table.ClockTag.{ClockTag}
 
 abbrev pub firstClock : ℕ
 firstClock = 1
-
-abbrev pub noClock : Clock
-noClock = record { state = absent; rate = 0; min = 0; max = 0 }
 
 -- a number clamped to a minimum and a maximum
 abbrev pub clamp : (low high x : ℕ) → ℕ

@@ -1,16 +1,17 @@
 -- A known tag outside the frame buffer group, on the record. Its request has up to two words: of power, clocks, voltage and temperature the first, a, is the id, and the second, x, what a set asks for.
 use mathlib.Core.List.{List}
 use Prim.Native.Nat.{ℕ}
+use Rattle.board.specs.Items.{noDevice, noClock, noVoltage}
 use Rattle.board.specs.declared.items.Clock.{Clock}
 use Rattle.board.specs.declared.items.Device.{Device}
 use Rattle.board.specs.declared.items.Voltage.{Voltage}
 use Rattle.board.specs.declared.record.Board.{Board}
-use Rattle.tags.specs.Clock.{firstClock, noClock, clockAfter, clockValue}
+use Rattle.tags.specs.Clock.{firstClock, clockAfter, clockValue}
 use Rattle.tags.specs.Fact.{factAnswer}
 use Rattle.tags.specs.Place.{item, change}
-use Rattle.tags.specs.Power.{firstDevice, noDevice, powerAfter, powerValue}
+use Rattle.tags.specs.Power.{firstDevice, powerAfter, powerValue}
 use Rattle.tags.specs.Temperature.{temperatureValue}
-use Rattle.tags.specs.Voltage.{firstVoltage, noVoltage, voltageAfter, voltageValue}
+use Rattle.tags.specs.Voltage.{firstVoltage, voltageAfter, voltageValue}
 use Rattle.tags.specs.declared.answer.Answer.{Answer}
 use Rattle.tags.specs.declared.table.Kind.{Kind}
 

@@ -2,14 +2,11 @@
 use mathlib.Core.List.{List}
 use Prim.Native.Nat.{ℕ}
 use Rattle.board.specs.declared.items.Device.{Device}
-use Rattle.tags.specs.State.{stateOf, present, switched, absent}
+use Rattle.tags.specs.State.{stateOf, present, switched}
 use Rattle.tags.specs.declared.table.PowerTag.{PowerTag}
 
 abbrev pub firstDevice : ℕ
 firstDevice = 0
-
-abbrev pub noDevice : Device
-noDevice = record { state = absent; timing = 0 }
 
 -- the device as a tag leaves it, x being the state that a set asks for
 unfoldable pub powerAfter : PowerTag → ℕ → Device → Device

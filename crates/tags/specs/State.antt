@@ -15,7 +15,3 @@ present s n = cond (s .exists) n 0
 -- a set takes bit 0 only, and changes no absent item
 unfoldable pub switched : ℕ → State → State
 switched x s = cond (s .exists) (record { exists = true; on = eqb (x % 2) 1 }) s
-
--- an item that is not there
-abbrev pub absent : State
-absent = record { exists = false; on = false }

@@ -9,9 +9,6 @@ use Rattle.tags.specs.declared.table.VoltageTag.{VoltageTag}
 abbrev pub firstVoltage : ℕ
 firstVoltage = 1
 
-abbrev pub noVoltage : Voltage
-noVoltage = record { valid = false; value = 0; min = 0; max = 0 }
-
 -- minus n as a word of 32 bits, in two's complement
 abbrev pub minus : ℕ → ℕ
 minus n = (2 ^ 32 - n) % 2 ^ 32

@@ -6,7 +6,8 @@ use crate::table::ClockTag;
 use board::items::Clock;
 use board::items::State;
 ghost use mathlib.Core.Path.{_≡_};
-ghost use Rattle.tags.specs.Clock.{clamp, settled, clockAfter, clockValue, noClock};
+ghost use Rattle.board.specs.Items.{noClock};
+ghost use Rattle.tags.specs.Clock.{clamp, settled, clockAfter, clockValue};
 
 // x, or the nearer bound where it lies outside.
 pub fn clamped(low: u32, high: u32, x: u32) -> u32

@@ -6,7 +6,8 @@ use crate::table::PowerTag;
 use board::items::Device;
 use board::items::State;
 ghost use mathlib.Core.Path.{_≡_};
-ghost use Rattle.tags.specs.Power.{powerAfter, powerValue, noDevice};
+ghost use Rattle.board.specs.Items.{noDevice};
+ghost use Rattle.tags.specs.Power.{powerAfter, powerValue};
 
 // The device of an id that is not listed.
 pub fn absent_device() -> Device

@@ -3,7 +3,8 @@ use crate::clock::clamped;
 use crate::table::VoltageTag;
 use board::items::Voltage;
 ghost use mathlib.Core.Path.{_≡_};
-ghost use Rattle.tags.specs.Voltage.{maxOffset, minOffset, voltageAfter, voltageValue, noVoltage};
+ghost use Rattle.board.specs.Items.{noVoltage};
+ghost use Rattle.tags.specs.Voltage.{maxOffset, minOffset, voltageAfter, voltageValue};
 
 // The voltage of an id that is not listed.
 pub fn absent_voltage() -> Voltage
