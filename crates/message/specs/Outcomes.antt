@@ -12,6 +12,10 @@ tooFewLent = 1
 abbrev pub badSize : ℕ
 badSize = 2
 
+-- the code word is not that of a request
+abbrev pub notRequest : ℕ
+notRequest = 3
+
 -- the walk reaches the size without an end word
 abbrev pub noEnd : ℕ
 noEnd = 4
@@ -19,6 +23,10 @@ noEnd = 4
 -- a tag runs over the size
 abbrev pub runsOver : ℕ
 runsOver = 5
+
+-- a known request tag has a value below its request length
+abbrev pub shortRequest : ℕ
+shortRequest = 6
 
 -- the builder has no room
 abbrev pub noRoom : ℕ
@@ -35,3 +43,7 @@ badCursor = 9
 -- the end was reached and there is no such tag
 abbrev pub noSuchTag : ℕ
 noSuchTag = 11
+
+-- the board record is not valid
+abbrev pub invalidBoard : ℕ
+invalidBoard = 14

@@ -2,11 +2,13 @@
 use mathlib.Core.Bool.{Bool, true, false, cond}
 use Prim.Native.Nat.{ℕ, min, max}
 use Rattle.board.specs.declared.items.Clock.{Clock}
+use Rattle.tags.specs.Place.{placeOf}
 use Rattle.tags.specs.State.{stateOf, present, switched}
+use Rattle.tags.specs.declared.place.Place.{Place}
 use Rattle.tags.specs.declared.table.ClockTag.{ClockTag}
 
-abbrev pub firstClock : ℕ
-firstClock = 1
+abbrev pub clockPlace : (id : ℕ) → Place
+clockPlace id = placeOf id 1 14
 
 -- a number clamped to a minimum and a maximum
 abbrev pub clamp : (low high x : ℕ) → ℕ

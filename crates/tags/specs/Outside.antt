@@ -6,21 +6,21 @@ use Rattle.board.specs.declared.items.Clock.{Clock}
 use Rattle.board.specs.declared.items.Device.{Device}
 use Rattle.board.specs.declared.items.Voltage.{Voltage}
 use Rattle.board.specs.declared.record.Board.{Board}
-use Rattle.tags.specs.Clock.{firstClock, clockAfter, clockValue}
+use Rattle.tags.specs.Clock.{clockPlace, clockAfter, clockValue}
 use Rattle.tags.specs.Fact.{factAnswer}
 use Rattle.tags.specs.Place.{item, change}
-use Rattle.tags.specs.Power.{firstDevice, powerAfter, powerValue}
+use Rattle.tags.specs.Power.{devicePlace, powerAfter, powerValue}
 use Rattle.tags.specs.Temperature.{temperatureValue}
-use Rattle.tags.specs.Voltage.{firstVoltage, voltageAfter, voltageValue}
+use Rattle.tags.specs.Voltage.{voltagePlace, voltageAfter, voltageValue}
 use Rattle.tags.specs.declared.answer.Answer.{Answer}
 use Rattle.tags.specs.declared.table.Kind.{Kind}
 
 -- each answers the id and one value of the item that it left
 unfoldable pub outsideAnswer : Kind → (a x : ℕ) → Board → Answer
 outsideAnswer (Kind.Fact t) a x b = factAnswer t (b .facts)
-outsideAnswer (Kind.Power t) a x b = Answer.Pair a (powerValue t (powerAfter t x (item noDevice firstDevice (b .devices) a)))
-outsideAnswer (Kind.Clock t) a x b = Answer.Pair a (clockValue t (clockAfter t x (item noClock firstClock (b .clocks) a)))
-outsideAnswer (Kind.Voltage t) a x b = Answer.Pair a (voltageValue t (voltageAfter t x (item noVoltage firstVoltage (b .voltages) a)))
+outsideAnswer (Kind.Power t) a x b = Answer.Pair a (powerValue t (powerAfter t x (item noDevice (b .devices) (devicePlace a))))
+outsideAnswer (Kind.Clock t) a x b = Answer.Pair a (clockValue t (clockAfter t x (item noClock (b .clocks) (clockPlace a))))
+outsideAnswer (Kind.Voltage t) a x b = Answer.Pair a (voltageValue t (voltageAfter t x (item noVoltage (b .voltages) (voltagePlace a))))
 outsideAnswer (Kind.Temperature t) a x b = Answer.Pair a (temperatureValue t a (b .temperature))
 outsideAnswer (Kind.Frame t) a x b = Answer.Nothing
 
@@ -39,8 +39,8 @@ withVoltages b xs =
 -- the record that it leaves: only the item of its id can change
 unfoldable pub outsideAfter : Kind → (a x : ℕ) → Board → Board
 outsideAfter (Kind.Fact t) a x b = b
-outsideAfter (Kind.Power t) a x b = withDevices b (change noDevice firstDevice (powerAfter t x) (b .devices) a)
-outsideAfter (Kind.Clock t) a x b = withClocks b (change noClock firstClock (clockAfter t x) (b .clocks) a)
-outsideAfter (Kind.Voltage t) a x b = withVoltages b (change noVoltage firstVoltage (voltageAfter t x) (b .voltages) a)
+outsideAfter (Kind.Power t) a x b = withDevices b (change noDevice (powerAfter t x) (b .devices) (devicePlace a))
+outsideAfter (Kind.Clock t) a x b = withClocks b (change noClock (clockAfter t x) (b .clocks) (clockPlace a))
+outsideAfter (Kind.Voltage t) a x b = withVoltages b (change noVoltage (voltageAfter t x) (b .voltages) (voltagePlace a))
 outsideAfter (Kind.Temperature t) a x b = b
 outsideAfter (Kind.Frame t) a x b = b

@@ -7,17 +7,19 @@ use lib.Dec.{leb, ltb}
 use lib.ListN.{getD, set}
 use Rattle.tags.specs.declared.place.Place.{Place}
 
--- the item of an id, or `none` where the id is not listed
-unfoldable pub item : {A : Type 0} → A → (first : ℕ) → List A → (id : ℕ) → A
-item none first xs id = cond (ltb id first) none (getD xs (id - first) none)
-
--- the items with that of an id changed; an id that is not listed changes nothing
-unfoldable pub change : {A : Type 0} → A → (first : ℕ) → (A → A) → List A → (id : ℕ) → List A
-change none first f xs id = cond (ltb id first) xs (set xs (id - first) (f (getD xs (id - first) none)))
-
 -- the place of an id among `count` items: unlisted below the first and behind the last
 unfoldable pub placeOf : (id first count : ℕ) → Place
 placeOf id first count = cond (ltb id first) Place.Unlisted (cond (leb count (id - first)) Place.Unlisted (Place.At (id - first)))
+
+-- the item at a place, or `none` where the id is not listed
+abbrev pub item : {A : Type 0} → A → List A → Place → A
+item none xs (Place.At i) = getD xs i none
+item none xs Place.Unlisted = none
+
+-- the items with that at a place changed; an id that is not listed changes nothing
+abbrev pub change : {A : Type 0} → A → (A → A) → List A → Place → List A
+change none f xs (Place.At i) = set xs i (f (getD xs i none))
+change none f xs Place.Unlisted = xs
 
 -- a place is within the items
 abbrev pub Within : ℕ → Place → Type 0

@@ -1,12 +1,13 @@
 -- Power devices, ids 0 to 10.
-use mathlib.Core.List.{List}
 use Prim.Native.Nat.{ℕ}
 use Rattle.board.specs.declared.items.Device.{Device}
+use Rattle.tags.specs.Place.{placeOf}
 use Rattle.tags.specs.State.{stateOf, present, switched}
+use Rattle.tags.specs.declared.place.Place.{Place}
 use Rattle.tags.specs.declared.table.PowerTag.{PowerTag}
 
-abbrev pub firstDevice : ℕ
-firstDevice = 0
+abbrev pub devicePlace : (id : ℕ) → Place
+devicePlace id = placeOf id 0 11
 
 -- the device as a tag leaves it, x being the state that a set asks for
 unfoldable pub powerAfter : PowerTag → ℕ → Device → Device

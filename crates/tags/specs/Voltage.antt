@@ -4,10 +4,12 @@ use Prim.Native.Nat.{ℕ, suc, _+_, _-_, _*_, _/_, _%_, _^_}
 use lib.Dec.{ltb}
 use Rattle.board.specs.declared.items.Voltage.{Voltage}
 use Rattle.tags.specs.Clock.{clamp}
+use Rattle.tags.specs.Place.{placeOf}
+use Rattle.tags.specs.declared.place.Place.{Place}
 use Rattle.tags.specs.declared.table.VoltageTag.{VoltageTag}
 
-abbrev pub firstVoltage : ℕ
-firstVoltage = 1
+abbrev pub voltagePlace : (id : ℕ) → Place
+voltagePlace id = placeOf id 1 4
 
 -- minus n as a word of 32 bits, in two's complement
 abbrev pub minus : ℕ → ℕ

@@ -33,7 +33,8 @@ fn store_word(value: &mut [u8], n: u32)
     store(value, &bytes);
 }
 
-fn store_pair(value: &mut [u8], a: u32, b: u32)
+// Stores the first bytes of two words.
+pub fn store_pair(value: &mut [u8], a: u32, b: u32)
     ensures { λ _. ⌜ now (value .exit) ≡ over (le 4 a ++ le 4 b) (now (value .entry)) ⌝ }
 {
     if 8 <= value.len() {

@@ -2,11 +2,14 @@
 use crate::answer::Answer;
 use crate::answer::answer_length;
 use crate::answer::store_answer;
+use crate::answer::store_pair;
 use board::facts::Facts;
 use message::opening::Message;
 use message::walk::Tag;
 use words::numbers::put_u32;
+ghost use mathlib.Core.List.{_++_};
 ghost use mathlib.Core.Path.{_≡_};
+ghost use Rattle.words.specs.Numbers.{le};
 ghost use Rattle.tags.specs.Answer.{answerBytes};
 ghost use Rattle.tags.specs.Reply.{answered, AnswerFits};
 ghost use lib.ListN.{length};
@@ -22,4 +25,15 @@ pub fn put_answer(msg: &mut [u8], at: usize, size: u32, answer: Answer, facts: F
     let value = at + Message::TAG;
     let end = value + size as usize;
     store_answer(&mut msg[value..end], answer, facts, line);
+}
+
+// Answers the tag with two words.
+pub fn put_pair(msg: &mut [u8], at: usize, size: u32, a: u32, b: u32)
+    requires { ⌜ AnswerFits (length (now msg)) at size 0 ⌝ }
+    ensures { λ _. ⌜ now (msg .exit) ≡ answered at size (le 4 a ++ le 4 b) (now (msg .entry)) ⌝ }
+{
+    put_u32(msg, at + Tag::WORD, 0x8000_0008);
+    let value = at + Message::TAG;
+    let end = value + size as usize;
+    store_pair(&mut msg[value..end], a, b);
 }

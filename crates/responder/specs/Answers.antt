@@ -1,0 +1,80 @@
+-- What the board answers: from the record and what is asked for, the answers and the record afterwards.
+use mathlib.Core.Bool.{Bool, true, false, cond}
+use mathlib.Core.List.{List, [], _∷_}
+use Prim.Native.Nat.{ℕ}
+use lib.Dec.{eqb}
+use Rattle.words.specs.Numbers.{word}
+use Rattle.message.specs.Outcomes.{done}
+use Rattle.message.specs.declared.walk.Ending.{Ending}
+use Rattle.board.specs.declared.display.Display.{Display}
+use Rattle.board.specs.declared.record.Board.{Board}
+use Rattle.tags.specs.Answer.{answerBytes}
+use Rattle.tags.specs.Outside.{outsideAnswer, outsideAfter}
+use Rattle.tags.specs.declared.answer.Answer.{Answer}
+use Rattle.tags.specs.declared.table.Kind.{Kind}
+use Rattle.display.specs.Decision.{decided, mixed, groupAnswer}
+use Rattle.display.specs.Operation.{unasked, noted}
+use Rattle.display.specs.declared.decision.Decision.{Decision}
+use Rattle.display.specs.declared.operation.Operation.{Operation}
+use Rattle.responder.specs.Requests.{Request, passed, short, asks}
+
+-- the first and the second word of a request, 0 where it has none
+abbrev pub first : List ℕ → ℕ
+first bytes = word bytes 0
+
+abbrev pub second : List ℕ → ℕ
+second bytes = word bytes 4
+
+-- ---- the frame buffer group: all its requests form one operation
+abbrev pub noteBy : Request → Operation → Operation
+noteBy passed o = o
+noteBy short o = o
+noteBy (asks (Kind.Frame t) bytes) o = noted t (first bytes) (second bytes) o
+noteBy (asks (Kind.Fact t) bytes) o = o
+noteBy (asks (Kind.Power t) bytes) o = o
+noteBy (asks (Kind.Clock t) bytes) o = o
+noteBy (asks (Kind.Voltage t) bytes) o = o
+noteBy (asks (Kind.Temperature t) bytes) o = o
+
+abbrev pub operation : Operation → List Request → Operation
+operation o [] = o
+operation o (r ∷ rs) = operation (noteBy r o) rs
+
+-- in a faultless message the operation is decided on the record as it came; after a fault the group is not carried out
+abbrev pub groupIf : (faultless : Bool) → Display → List Request → Decision
+groupIf true d rs = decided d (operation (unasked (d .settings)) rs)
+groupIf false d rs = mixed d
+
+unfoldable pub groupOf : Display → Ending → List Request → Decision
+groupOf d e rs = groupIf (eqb (e .outcome) done) d rs
+
+-- ---- the answers
+-- a tag says nothing, or its whole answer
+pub data Said : Type 0 where
+  silent : Said
+  says : List ℕ → Said
+
+-- a tag outside the group answers from the record that the last one left; a group tag from the decision, unless the group is not answered
+unfoldable pub saidBy : Decision → Board → Request → Said
+saidBy g b passed = silent
+saidBy g b short = silent
+saidBy g b (asks (Kind.Frame t) bytes) = cond (g .answered) (says (answerBytes (b .facts) (b .line) (groupAnswer g t))) silent
+saidBy g b (asks (Kind.Fact t) bytes) = says (answerBytes (b .facts) (b .line) (outsideAnswer (Kind.Fact t) (first bytes) (second bytes) b))
+saidBy g b (asks (Kind.Power t) bytes) = says (answerBytes (b .facts) (b .line) (outsideAnswer (Kind.Power t) (first bytes) (second bytes) b))
+saidBy g b (asks (Kind.Clock t) bytes) = says (answerBytes (b .facts) (b .line) (outsideAnswer (Kind.Clock t) (first bytes) (second bytes) b))
+saidBy g b (asks (Kind.Voltage t) bytes) = says (answerBytes (b .facts) (b .line) (outsideAnswer (Kind.Voltage t) (first bytes) (second bytes) b))
+saidBy g b (asks (Kind.Temperature t) bytes) = says (answerBytes (b .facts) (b .line) (outsideAnswer (Kind.Temperature t) (first bytes) (second bytes) b))
+
+unfoldable pub afterBy : Board → Request → Board
+afterBy b passed = b
+afterBy b short = b
+afterBy b (asks k bytes) = outsideAfter k (first bytes) (second bytes) b
+
+-- tags run in order, each on the record the last one left
+abbrev pub answers : Decision → Board → List Request → List Said
+answers g b [] = []
+answers g b (r ∷ rs) = saidBy g b r ∷ answers g (afterBy b r) rs
+
+abbrev pub after : Board → List Request → Board
+after b [] = b
+after b (r ∷ rs) = after (afterBy b r) rs

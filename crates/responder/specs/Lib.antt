@@ -1,0 +1,4 @@
+pub mod Requests
+pub mod Answers
+pub mod Reply
+pub mod Ask

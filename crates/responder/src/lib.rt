@@ -1,0 +1,3 @@
+// The responder: the emulated board serves a message.
+pub mod ask;
+pub mod respond;
