@@ -2,58 +2,42 @@ use Rattle.display.specs.Operation.{noted}
 use borrow.Author.Needs.{needs}
 use Rattle.display.proofs.operation.note.Statement.{statement}
 use Rattle.display.proofs.operation.note.Tie as tie
-use Rattle.display.proofs.operation.note.Reads as reads
-use Rattle.display.proofs.operation.note.Lts as lts
-use Rattle.display.proofs.operation.note_setting.Reads as note-setting-reads
-use Rattle.display.proofs.operation.with_other.Reads as with-other-reads
 
--- src/operation.rt:108:22
 enum-known-tag : tie.Need-enum-known-tag
 enum-known-tag c = search needs
 
--- src/operation.rt:108:40
 note-setting-requires : tie.Need-note-setting-requires
 note-setting-requires c κs = search needs
 
--- src/operation.rt:109:28
 enum-told : tie.Need-enum-told
 enum-told c = search needs
 
--- src/operation.rt:109:28
 with-other-requires : tie.Need-with-other-requires
 with-other-requires c κs = search needs
 
--- src/operation.rt:111:13
 enum-told-2 : tie.Need-enum-told-2
 enum-told-2 c = search needs
 
--- src/operation.rt:113:13
 with-other-requires-2 : tie.Need-with-other-requires-2
 with-other-requires-2 c κs = search needs
 
--- src/operation.rt:116:13
 enum-told-3 : tie.Need-enum-told-3
 enum-told-3 c = search needs
 
--- src/operation.rt:117:13
 with-other-requires-3 : tie.Need-with-other-requires-3
 with-other-requires-3 c κs = search needs
 
--- src/operation.rt:104:1
 returns : tie.Need-returns
 returns c = rw (c .before .before .tag .given .1) (c .note-setting .ensures)
 
--- src/operation.rt:104:1
 returns-2 : tie.Need-returns-2
 unfolding noted
 returns-2 c = rw (c .before .enum-told .given .1, c .with-other .ensures)
 
--- src/operation.rt:104:1
 returns-3 : tie.Need-returns-3
 unfolding noted
 returns-3 c = rw (c .before .enum-told2 .given .1, c .with-other2 .ensures)
 
--- src/operation.rt:104:1
 returns-4 : tie.Need-returns-4
 unfolding noted
 returns-4 c = rw (c .before .enum-told3 .given .1, c .with-other3 .ensures)

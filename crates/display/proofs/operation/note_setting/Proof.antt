@@ -2,50 +2,36 @@ use Rattle.display.specs.Operation.{noted}
 use borrow.Author.Needs.{needs}
 use Rattle.display.proofs.operation.note_setting.Statement.{statement}
 use Rattle.display.proofs.operation.note_setting.Tie as tie
-use Rattle.display.proofs.operation.note_setting.Reads as reads
-use Rattle.display.proofs.operation.note_setting.Lts as lts
-use Rattle.display.proofs.operation.with_other.Reads as with-other-reads
-use Rattle.display.proofs.operation.with_setting.Reads as with-setting-reads
 
--- src/operation.rt:88:22
 enum-told : tie.Need-enum-told
 enum-told c = search needs
 
--- src/operation.rt:88:22
 with-other-requires : tie.Need-with-other-requires
 with-other-requires c κs = search needs
 
--- src/operation.rt:90:17
 enum-told-2 : tie.Need-enum-told-2
 enum-told-2 c = search needs
 
--- src/operation.rt:90:17
 with-setting-requires : tie.Need-with-setting-requires
 with-setting-requires c κs = search needs
 
--- src/operation.rt:96:17
 enum-told-3 : tie.Need-enum-told-3
 enum-told-3 c = search needs
 
--- src/operation.rt:96:17
 with-setting-requires-2 : tie.Need-with-setting-requires-2
 with-setting-requires-2 c κs = search needs
 
--- src/operation.rt:98:13
 with-other-requires-2 : tie.Need-with-other-requires-2
 with-other-requires-2 c κs = search needs
 
--- src/operation.rt:84:1
 returns : tie.Need-returns
 unfolding noted
 returns c = rw (c .before .enum-told .given .1) (c .with-other .ensures)
 
--- src/operation.rt:84:1
 returns-2 : tie.Need-returns-2
 unfolding noted
 returns-2 c = rw (c .before .enum-told2 .given .1, c .with-setting .ensures)
 
--- src/operation.rt:84:1
 returns-3 : tie.Need-returns-3
 unfolding noted
 returns-3 c = rw (c .before .before .enum-told3 .given .1, c .with-other2 .ensures, c .before .with-setting2 .ensures)

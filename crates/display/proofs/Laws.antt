@@ -1,0 +1,2 @@
+pub mod Align
+pub mod Decision
