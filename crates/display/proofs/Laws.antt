@@ -1,2 +1,3 @@
 pub mod Align
 pub mod Decision
+pub mod Kept

@@ -12,7 +12,7 @@ use Rattle.board.specs.declared.display.Display.{Display}
 use Rattle.board.specs.declared.facts.Span.{Span}
 use Rattle.board.proofs.Laws.Display.{supported-is}
 use Rattle.board.proofs.Laws.Valid.{display-parts}
-use Rattle.display.specs.Decision.{oneBit, placedAt, allocatable, fitsBuffer, accepted, bufferAfter, nowhere, showing, carriedOut, decidedBy, decided}
+use Rattle.display.specs.Decision.{oneBit, placedAt, allocatable, fitsBuffer, accepted, bufferAfter, nowhere, showing, mixed, tested, carriedOut, decidedBy, decided}
 use Rattle.display.specs.declared.decision.Decision.{Decision}
 use Rattle.display.specs.declared.operation.Operation.{Operation}
 use Rattle.display.proofs.Laws.Align.{one-bit-least, up-above}
@@ -49,6 +49,9 @@ module _ (d : Display) (o : Operation) where
 
   pub accepted-placed : accepted d o ≡ true → o .allocates ≡ true → Room
   accepted-placed e a = allocatable-is (sym (ap (λ (b : Bool). cond b (allocatable d o) (fitsBuffer d o)) a) ∙ accepted-room e)
+
+  pub accepted-fits : accepted d o ≡ true → o .allocates ≡ false → fitsBuffer d o ≡ true
+  accepted-fits e a = sym (ap (λ (b : Bool). cond b (allocatable d o) (fitsBuffer d o)) a) ∙ accepted-room e
 
   pub placed-fits : validDisplay d ≡ true → accepted d o ≡ true → o .allocates ≡ true → roundUp (o .alignment) (d .region .base) < 2 ^ 32
   placed-fits v e a = let region = display-parts d v .region in let room = accepted-placed e a .last in omega arith
@@ -102,3 +105,23 @@ module _ (d : Display) (o : Operation) where
 
   pub carried-out-by : o .tests ≡ false → {a isAccepted : Bool} → a ≡ accepted d o → a ≡ isAccepted → carriedOut isAccepted d o ≡ decided d o
   carried-out-by t e b = ap (λ (x : Bool). carriedOut x d o) (sym b ∙ e) ∙ decided-by t refl
+
+-- ---- what holds of each decision that there is holds of the decision
+module _ (d : Display) (o : Operation) (P : Decision → Type 0) (shows : P (showing (d .settings) d)) where
+  tested-cases : (supported (d .region .size) (o .proposal) ≡ true → P (showing (o .proposal) d)) → (b : Bool) → supported (d .region .size) (o .proposal) ≡ b → P (tested b d o)
+  tested-cases h true e = h e
+  tested-cases h false e = shows
+
+  carried-cases : (accepted d o ≡ true → P (carriedOut true d o)) → (b : Bool) → accepted d o ≡ b → P (carriedOut b d o)
+  carried-cases h true e = h e
+  carried-cases h false e = shows
+
+  module _ (mixes : P (mixed d)) (tests : supported (d .region .size) (o .proposal) ≡ true → P (showing (o .proposal) d)) (carries : accepted d o ≡ true → P (carriedOut true d o)) where
+    by-cases : (t u : Bool) → P (decidedBy t u d o)
+    by-cases true true = mixes
+    by-cases true false = tested-cases tests (supported (d .region .size) (o .proposal)) refl
+    by-cases false u = carried-cases carries (accepted d o) refl
+
+    pub decided-cases : P (decided d o)
+    unfolding decided
+    decided-cases = by-cases (o .tests) (o .others)
