@@ -1,7 +1,20 @@
 // The decision on an operation.
+use crate::operation::Operation;
 use board::display::Display;
 use board::display::Settings;
 use board::facts::Span;
+use board::settings::is_supported;
+use board::settings::need;
+use board::settings::pitch;
+use tags::answer::Answer;
+use tags::table::FrameTag;
+use tags::table::Setting;
+ghost use mathlib.Core.Bool.{true, cond};
+ghost use mathlib.Core.Path.{_≡_};
+ghost use Rattle.words.specs.Round.{roundUp};
+ghost use Rattle.board.specs.Display.{possible, supported};
+ghost use Rattle.board.specs.Valid.{validDisplay};
+ghost use Rattle.display.specs.Decision.{nowhere, oneBit, placedAt, allocatable, fitsBuffer, accepted, showing, mixed, tested, carriedOut, decided, settingAnswer, groupAnswer};
 
 // Whether the group's tags are answered, the settings, the pitch and the buffer that they answer,
 // and the display afterwards.
@@ -11,4 +24,188 @@ pub struct Decision {
     pub pitch: u32,
     pub placed: Span,
     pub display: Display,
+}
+
+// Whether an alignment has exactly one bit set.
+pub fn one_bit(a: u32) -> bool
+    ensures { λ r. ⌜ r ≡ oneBit a ⌝ }
+{
+    u32::count_ones(a) == 1
+}
+
+fn no_buffer() -> Span
+    ensures { λ r. ⌜ r ≡ nowhere ⌝ }
+{
+    Span { base: 0, size: 0 }
+}
+
+// The lowest multiple of the alignment at or above the base: it may pass 2^32.
+fn lowest_multiple(base: u32, alignment: u32) -> u64
+    requires { ⌜ oneBit alignment ≡ true ⌝ }
+    ensures { λ r. ⌜ r ≡ roundUp alignment base ⌝ }
+{
+    let a = alignment as u64;
+    (base as u64 + (a - 1)) / a * a
+}
+
+fn is_allocatable(d: Display, o: Operation) -> bool
+    requires { ⌜ possible (o .proposal) ≡ true ⌝ }
+    ensures { λ r. ⌜ r ≡ allocatable d o ⌝ }
+{
+    let region = d.region;
+    if one_bit(o.alignment) {
+        let base = lowest_multiple(region.base, o.alignment);
+        let size = need(o.proposal);
+        return base + size as u64 <= region.base as u64 + region.size as u64;
+    }
+    false
+}
+
+fn fits_buffer(d: Display, o: Operation) -> bool
+    requires { ⌜ possible (o .proposal) ≡ true ⌝ }
+    ensures { λ r. ⌜ r ≡ fitsBuffer d o ⌝ }
+{
+    let buffer = d.buffer;
+    if buffer.size == 0 {
+        return true;
+    }
+    if o.releases {
+        return true;
+    }
+    need(o.proposal) <= buffer.size
+}
+
+fn is_accepted(d: Display, o: Operation) -> bool
+    ensures { λ r. ⌜ r ≡ accepted d o ⌝ }
+{
+    let region = d.region;
+    if is_supported(region.size, o.proposal) {
+        if o.allocates {
+            return is_allocatable(d, o);
+        }
+        return fits_buffer(d, o);
+    }
+    false
+}
+
+// The buffer that an accepted operation's allocate tags answer.
+fn placed(d: Display, o: Operation) -> Span
+    requires { ⌜ (validDisplay d ≡ true) × (accepted d o ≡ true) ⌝ }
+    ensures { λ r. ⌜ r ≡ cond (o .allocates) (placedAt d o) nowhere ⌝ }
+{
+    if o.allocates {
+        let region = d.region;
+        let base = lowest_multiple(region.base, o.alignment);
+        return Span {
+            base: base as u32,
+            size: need(o.proposal),
+        };
+    }
+    no_buffer()
+}
+
+// The buffer that stands afterwards.
+fn standing(o: Operation, placed: Span, buffer: Span) -> Span
+    ensures { λ r. ⌜ r ≡ cond (o .allocates) placed (cond (o .releases) nowhere buffer) ⌝ }
+{
+    if o.allocates {
+        return placed;
+    }
+    if o.releases {
+        return no_buffer();
+    }
+    buffer
+}
+
+fn show(s: Settings, d: Display) -> Decision
+    requires { ⌜ possible s ≡ true ⌝ }
+    ensures { λ r. ⌜ r ≡ showing s d ⌝ }
+{
+    Decision {
+        answered: true,
+        shown: s,
+        pitch: pitch(s),
+        placed: no_buffer(),
+        display: d,
+    }
+}
+
+fn refuse_mixed(d: Display) -> Decision
+    requires { ⌜ validDisplay d ≡ true ⌝ }
+    ensures { λ r. ⌜ r ≡ mixed d ⌝ }
+{
+    let mut decision = show(d.settings, d);
+    decision.answered = false;
+    decision
+}
+
+fn test(d: Display, o: Operation) -> Decision
+    requires { ⌜ validDisplay d ≡ true ⌝ }
+    ensures { λ r. ⌜ r ≡ tested (supported (d .region .size) (o .proposal)) d o ⌝ }
+{
+    let region = d.region;
+    if is_supported(region.size, o.proposal) {
+        return show(o.proposal, d);
+    }
+    show(d.settings, d)
+}
+
+fn carry_out(d: Display, o: Operation) -> Decision
+    requires { ⌜ (validDisplay d ≡ true) × (accepted d o ≡ true) ⌝ }
+    ensures { λ r. ⌜ r ≡ carriedOut true d o ⌝ }
+{
+    let placed = placed(d, o);
+    let region = d.region;
+    let settings = o.proposal;
+    let buffer = standing(o, placed, d.buffer);
+    let display = Display {
+        region,
+        settings,
+        buffer,
+    };
+    let mut decision = show(settings, display);
+    decision.placed = placed;
+    decision
+}
+
+// The decision on an operation. No entry point: for a valid display.
+pub fn decide(d: Display, o: Operation) -> Decision
+    requires { ⌜ validDisplay d ≡ true ⌝ }
+    ensures { λ r. ⌜ r ≡ decided d o ⌝ }
+{
+    if o.tests {
+        if o.others {
+            return refuse_mixed(d);
+        }
+        return test(d, o);
+    }
+    if is_accepted(d, o) {
+        return carry_out(d, o);
+    }
+    show(d.settings, d)
+}
+
+fn answer_setting(s: Settings, setting: Setting) -> Answer
+    ensures { λ r. ⌜ r ≡ settingAnswer setting s ⌝ }
+{
+    match setting {
+        Setting::Physical => Answer::Pair(s.physical.width, s.physical.height),
+        Setting::Virtual => Answer::Pair(s.logical.width, s.logical.height),
+        Setting::Depth => Answer::Word(s.depth),
+        Setting::Order => Answer::Word(s.order),
+        Setting::Alpha => Answer::Word(s.alpha),
+        Setting::Offset => Answer::Pair(s.offset.x, s.offset.y),
+    }
+}
+
+// What a group tag answers.
+pub fn answer_group(d: Decision, tag: FrameTag) -> Answer
+    ensures { λ r. ⌜ r ≡ groupAnswer d tag ⌝ }
+{
+    match tag {
+        FrameTag::Of(_, setting) => answer_setting(d.shown, setting),
+        FrameTag::Pitch => Answer::Word(d.pitch),
+        FrameTag::Allocate => Answer::Pair(d.placed.base, d.placed.size),
+        FrameTag::Release => Answer::Nothing,
+    }
 }

@@ -1,0 +1,46 @@
+use Rattle.display.proofs.Laws.Decision.{valid-possible, decided-by, carried-out-by}
+use mathlib.Core.Path.{sym, ap, _∙_}
+use borrow.Author.Needs.{needs}
+use Rattle.display.proofs.decision.decide.Statement.{statement}
+use Rattle.display.proofs.decision.decide.Tie as tie
+
+refuse-mixed-requires : tie.Need-refuse-mixed-requires
+refuse-mixed-requires c κs = search needs
+
+returns : tie.Need-returns
+returns c = c .refuse-mixed .ensures ∙ decided-by _ _ (c .before .before .if1 .taken) (c .before .if2 .taken)
+
+test-requires : tie.Need-test-requires
+test-requires c κs = search needs
+
+returns-2 : tie.Need-returns-2
+returns-2 c = c .test .ensures ∙ decided-by _ _ (c .before .before .if1 .taken) (c .before .if2 .left)
+
+is-accepted-requires : tie.Need-is-accepted-requires
+is-accepted-requires c κs = search needs
+
+carry-out-requires : tie.Need-carry-out-requires
+carry-out-requires c κs = (c .before .before .before .pre, sym (c .before .is-accepted .ensures) ∙ c .if3 .taken)
+
+returns-3 : tie.Need-returns-3
+returns-3 c = c .carry-out .ensures ∙ carried-out-by _ _ (c .before .before .before .if1 .left) (c .before .before .is-accepted .ensures) (c .before .if3 .taken)
+
+show-requires : tie.Need-show-requires
+show-requires c κs = valid-possible _ (c .before .before .before .pre)
+
+returns-4 : tie.Need-returns-4
+returns-4 c = c .show .ensures ∙ carried-out-by _ _ (c .before .before .before .if1 .left) (c .before .before .is-accepted .ensures) (c .before .if3 .left)
+
+pub decide-spec : {M : Type 1} → statement M
+decide-spec =
+    tie.close
+    (tie.spec
+    refuse-mixed-requires
+    returns
+    test-requires
+    returns-2
+    is-accepted-requires
+    carry-out-requires
+    returns-3
+    show-requires
+    returns-4)
