@@ -1,1 +1,5 @@
 pub mod Asks
+pub mod Said
+pub mod Trails
+pub mod Scanning
+pub mod Serving

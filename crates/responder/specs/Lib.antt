@@ -2,3 +2,5 @@ pub mod Requests
 pub mod Answers
 pub mod Reply
 pub mod Ask
+pub mod Scan
+pub mod Serve

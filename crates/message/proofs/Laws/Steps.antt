@@ -6,7 +6,8 @@ use Prim.Native.Nat.{ℕ, _+_, _-_, _%_, _≤_, _<_}
 use native.Mathlib.Omega.{arith}
 use borrow.Author.Tests.{eq-eqb, ne-eqb, lt-ltb, le-ltb, ltb-false}
 use lib.Dec.{ltb, eqb}
-use lib.ListN.{length}
+use lib.ListN.{length, drop}
+use Rattle.words.proofs.Laws.Agree.{number-behind}
 use Rattle.words.specs.Numbers.{word}
 use Rattle.words.specs.Round.{roundUp}
 use Rattle.message.specs.Outcomes.{noEnd, runsOver}
@@ -79,3 +80,13 @@ found m size p {t} {next} e = go (eqb p size) (eqb (word m p) 0) (overruns m siz
 -- the next place is one of the walk too
 pub walking-on : (m m′ : List ℕ) (size p : ℕ) {t : Tag} {next : ℕ} → Walking m size p → Found m size p t next → length m′ ≡ length m → Walking m′ size next
 walking-on m m′ size p w f e = record { within = f .fits; lent = omega arith; most = w .most; place4 = omega arith; size4 = w .size4 }
+
+-- a step reads only what stands from its place on
+pub tag-same : (m m′ : List ℕ) (p : ℕ) → drop p m ≡ drop p m′ → tagAt m p ≡ tagAt m′ p
+unfolding tagAt
+tag-same m m′ p e =
+    rw (number-behind 4 p p m m′ (omega arith) e, number-behind 4 p (p + sizePlace) m m′ (omega arith) e, number-behind 4 p (p + wordPlace) m m′ (omega arith) e)
+
+pub step-same : (m m′ : List ℕ) (size p : ℕ) → drop p m ≡ drop p m′ → step m size p ≡ step m′ size p
+unfolding step overruns
+step-same m m′ size p e = rw (number-behind 4 p p m m′ (omega arith) e, tag-same m m′ p e)

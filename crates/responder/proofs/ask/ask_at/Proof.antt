@@ -29,7 +29,7 @@ cast-if2 : tie.Need-cast-if2
 cast-if2 c = search needs
 
 returns-3 : tie.Need-returns-3
-returns-3 c = 
+returns-3 c =
     let at-row = c .before .before .before in
     let at-row-of = at-row .before .before in
     ask-short _ _ (at-row-of .before .if1 .left) (at-row-of .row-of .ensures) (at-row .row .given .1) (c .if2 .taken)
@@ -38,14 +38,14 @@ add-value : tie.Need-add-value
 add-value c = search needs
 
 word-of-requires : tie.Need-word-of-requires
-word-of-requires c κs = 
+word-of-requires c κs =
     let at-row = c .before .before .before .before in
     let at-row-of = at-row .before .before in
     let start = at-row-of .before .before .before .before in
     ask-fits (start .args .msg .now) (start .args .tag) (at-row-of .before .if1 .left) (at-row-of .row-of .ensures) (at-row .row .given .1) (start .pre) (c .before .if2 .left) 0 refl (omega arith)
 
 word-of-requires-2 : tie.Need-word-of-requires-2
-word-of-requires-2 c κs = 
+word-of-requires-2 c κs =
     let at-row = c .before .before .before .before .before in
     let at-row-of = at-row .before .before in
     let start = at-row-of .before .before .before .before in
@@ -55,7 +55,7 @@ ask-kind-requires : tie.Need-ask-kind-requires
 ask-kind-requires c κs = search needs
 
 returns-4 : tie.Need-returns-4
-returns-4 c = 
+returns-4 c =
     let at-if2 = c .before .before .before .before in
     let at-row = at-if2 .before .before .before in
     let at-row-of = at-row .before .before in

@@ -1,0 +1,311 @@
+use mathlib.Core.Path.{_≡_}
+use native.Mathlib.Omega.{arith}
+use lib.ListN.{length}
+use Prim.Native.Nat.{_-_, _<_}
+use borrow.Author.Needs.{needs}
+use Rattle.responder.proofs.Laws.Serving.{Serving, serve-start, serve-stop, serve-less, serve-in, serve-fits, serve-pair, serve-short, serve-pass, serve-fixed, serve-power, serve-clock, serve-voltage, serve-temperature, serve-fact, serve-frame, serve-left, within-devices, within-clocks, within-voltages}
+use Rattle.responder.proofs.serve.serve.Statement.{statement}
+use Rattle.responder.proofs.serve.serve.Tie as tie
+use Rattle.responder.proofs.serve.serve.Reads as reads
+use Rattle.responder.proofs.serve.serve.Lts as lts
+use Rattle.display.proofs.decision.answer_group.Reads as answer-group-reads
+use Rattle.message.proofs.walk.step_at.Reads as step-at-reads
+use Rattle.responder.proofs.ask.ask_at.Reads as ask-at-reads
+use Rattle.tags.proofs.clock.clock_after.Reads as clock-after-reads
+use Rattle.tags.proofs.clock.clock_value.Reads as clock-value-reads
+use Rattle.tags.proofs.fact.answer_fact.Reads as answer-fact-reads
+use Rattle.tags.proofs.power.power_after.Reads as power-after-reads
+use Rattle.tags.proofs.power.power_value.Reads as power-value-reads
+use Rattle.tags.proofs.reply.put_answer.Reads as put-answer-reads
+use Rattle.tags.proofs.reply.put_pair.Reads as put-pair-reads
+use Rattle.tags.proofs.temperature.temperature_value.Reads as temperature-value-reads
+use Rattle.tags.proofs.voltage.voltage_after.Reads as voltage-after-reads
+use Rattle.tags.proofs.voltage.voltage_value.Reads as voltage-value-reads
+
+abbrev Inv-loop : tie.InvT-loop
+Inv-loop msg₀ size group b₀ p₀ msg b p = Serving group msg₀ size b₀ msg b p
+
+abbrev μ-loop : tie.MeasureT-loop
+μ-loop msg₀ size group b₀ p₀ msg b p = size - p
+
+loop-holds : tie.Need-loop-holds Inv-loop μ-loop
+loop-holds c = 
+    let l : length (c .before .args .board .line) ≡ 256 = search needs in
+    serve-start _ _ _ _ (c .before .pre) (omega (arith, l))
+
+step-at-requires : tie.Need-step-at-requires Inv-loop μ-loop
+step-at-requires c κs = search needs
+
+enum-known-st : tie.Need-enum-known-st Inv-loop μ-loop
+enum-known-st c = search needs
+
+same-length : tie.Need-same-length Inv-loop μ-loop
+same-length c = search needs
+
+returns : tie.Need-returns Inv-loop μ-loop
+returns c = search serve-stop
+
+ask-at-requires : tie.Need-ask-at-requires Inv-loop μ-loop
+ask-at-requires c κs = search serve-in
+
+enum-told : tie.Need-enum-told Inv-loop μ-loop
+enum-told c = search needs
+
+same-length-2 : tie.Need-same-length-2 Inv-loop μ-loop
+same-length-2 c = search needs
+
+returns-2 : tie.Need-returns-2 Inv-loop μ-loop
+returns-2 c = search serve-short
+
+enum-told-2 : tie.Need-enum-told-2 Inv-loop μ-loop
+enum-told-2 c = search needs
+
+loop-less : tie.Need-loop-less Inv-loop μ-loop
+loop-less c = search serve-less
+
+loop-again : tie.Need-loop-again Inv-loop μ-loop
+loop-again c = 
+    let at-ask = c .before .before in
+    let at-tag = at-ask .before .before .before in
+    let at-step = at-tag .before .before in
+    serve-pass _ _ _ _ _ _ _ (at-step .before .before .loop .inv) (at-step .step-at .ensures) (at-tag .st .given .1) (at-ask .ask-at .ensures) (c .enum-told2 .given .1)
+
+enum-known-ask : tie.Need-enum-known-ask Inv-loop μ-loop
+enum-known-ask c = search needs
+
+put-pair-requires : tie.Need-put-pair-requires Inv-loop μ-loop
+put-pair-requires c κs = search serve-pair
+
+loop-less-2 : tie.Need-loop-less-2 Inv-loop μ-loop
+loop-less-2 c = search serve-less
+
+loop-again-2 : tie.Need-loop-again-2 Inv-loop μ-loop
+loop-again-2 c = search serve-fixed
+
+enum-known-ask-2 : tie.Need-enum-known-ask-2 Inv-loop μ-loop
+enum-known-ask-2 c = search needs
+
+answer-fact-requires : tie.Need-answer-fact-requires Inv-loop μ-loop
+answer-fact-requires c κs = search needs
+
+put-answer-requires : tie.Need-put-answer-requires Inv-loop μ-loop
+put-answer-requires c κs = search serve-fits
+
+loop-less-3 : tie.Need-loop-less-3 Inv-loop μ-loop
+loop-less-3 c = search serve-less
+
+loop-again-3 : tie.Need-loop-again-3 Inv-loop μ-loop
+loop-again-3 c = 
+    let at-answer = c .before .before .before .before .before .before .before .before in
+    let at-kind = at-answer .before .before .before in
+    let at-ask = at-kind .before .before in
+    let at-tag = at-ask .before .before .before in
+    let at-step = at-tag .before .before in
+    serve-fact _ _ _ _ _ _ _ (at-step .before .before .loop .inv) (at-step .step-at .ensures) (at-tag .st .given .1) (at-ask .ask-at .ensures) (c .before .before .put-answer .ensures) (at-kind .ask2 .given .1) (at-answer .answer-fact .ensures)
+
+enum-known-ask-3 : tie.Need-enum-known-ask-3 Inv-loop μ-loop
+enum-known-ask-3 c = search needs
+
+mul-power-after : tie.Need-mul-power-after Inv-loop μ-loop
+mul-power-after c = let h : c .before .ask3 .given .0 .1 .0 < 11 = search within-devices in search needs
+
+element-copy-out-power-after : tie.Need-element-copy-out-power-after Inv-loop μ-loop
+element-copy-out-power-after c = search within-devices
+
+power-after-requires : tie.Need-power-after-requires Inv-loop μ-loop
+power-after-requires c κs = search needs
+
+mul-d : tie.Need-mul-d Inv-loop μ-loop
+mul-d c = let h : c .before .before .before .ask3 .given .0 .1 .0 < 11 = search within-devices in search needs
+
+element-set-from-d : tie.Need-element-set-from-d Inv-loop μ-loop
+element-set-from-d c = search within-devices
+
+power-value-requires : tie.Need-power-value-requires Inv-loop μ-loop
+power-value-requires c κs = search needs
+
+put-pair-requires-2 : tie.Need-put-pair-requires-2 Inv-loop μ-loop
+put-pair-requires-2 c κs = search serve-pair
+
+loop-less-4 : tie.Need-loop-less-4 Inv-loop μ-loop
+loop-less-4 c = search serve-less
+
+loop-again-4 : tie.Need-loop-again-4 Inv-loop μ-loop
+loop-again-4 c = search serve-power
+
+enum-known-ask-4 : tie.Need-enum-known-ask-4 Inv-loop μ-loop
+enum-known-ask-4 c = search needs
+
+mul-clock-after : tie.Need-mul-clock-after Inv-loop μ-loop
+mul-clock-after c = let h : c .before .ask4 .given .0 .1 .0 < 14 = search within-clocks in search needs
+
+element-copy-out-clock-after : tie.Need-element-copy-out-clock-after Inv-loop μ-loop
+element-copy-out-clock-after c = search within-clocks
+
+clock-after-requires : tie.Need-clock-after-requires Inv-loop μ-loop
+clock-after-requires c κs = search needs
+
+mul-c : tie.Need-mul-c Inv-loop μ-loop
+mul-c c = let h : c .before .before .before .ask4 .given .0 .1 .0 < 14 = search within-clocks in search needs
+
+element-set-from-c : tie.Need-element-set-from-c Inv-loop μ-loop
+element-set-from-c c = search within-clocks
+
+clock-value-requires : tie.Need-clock-value-requires Inv-loop μ-loop
+clock-value-requires c κs = search needs
+
+put-pair-requires-3 : tie.Need-put-pair-requires-3 Inv-loop μ-loop
+put-pair-requires-3 c κs = search serve-pair
+
+loop-less-5 : tie.Need-loop-less-5 Inv-loop μ-loop
+loop-less-5 c = search serve-less
+
+loop-again-5 : tie.Need-loop-again-5 Inv-loop μ-loop
+loop-again-5 c = search serve-clock
+
+enum-known-ask-5 : tie.Need-enum-known-ask-5 Inv-loop μ-loop
+enum-known-ask-5 c = search needs
+
+mul-voltage-after : tie.Need-mul-voltage-after Inv-loop μ-loop
+mul-voltage-after c = let h : c .before .ask5 .given .0 .1 .0 < 4 = search within-voltages in search needs
+
+element-copy-out-voltage-after : tie.Need-element-copy-out-voltage-after Inv-loop μ-loop
+element-copy-out-voltage-after c = search within-voltages
+
+voltage-after-requires : tie.Need-voltage-after-requires Inv-loop μ-loop
+voltage-after-requires c κs = search needs
+
+mul-v : tie.Need-mul-v Inv-loop μ-loop
+mul-v c = let h : c .before .before .before .ask5 .given .0 .1 .0 < 4 = search within-voltages in search needs
+
+element-set-from-v : tie.Need-element-set-from-v Inv-loop μ-loop
+element-set-from-v c = search within-voltages
+
+voltage-value-requires : tie.Need-voltage-value-requires Inv-loop μ-loop
+voltage-value-requires c κs = search needs
+
+put-pair-requires-4 : tie.Need-put-pair-requires-4 Inv-loop μ-loop
+put-pair-requires-4 c κs = search serve-pair
+
+loop-less-6 : tie.Need-loop-less-6 Inv-loop μ-loop
+loop-less-6 c = search serve-less
+
+loop-again-6 : tie.Need-loop-again-6 Inv-loop μ-loop
+loop-again-6 c = search serve-voltage
+
+enum-known-ask-6 : tie.Need-enum-known-ask-6 Inv-loop μ-loop
+enum-known-ask-6 c = search needs
+
+temperature-value-requires : tie.Need-temperature-value-requires Inv-loop μ-loop
+temperature-value-requires c κs = search needs
+
+put-pair-requires-5 : tie.Need-put-pair-requires-5 Inv-loop μ-loop
+put-pair-requires-5 c κs = search serve-pair
+
+loop-less-7 : tie.Need-loop-less-7 Inv-loop μ-loop
+loop-less-7 c = search serve-less
+
+loop-again-7 : tie.Need-loop-again-7 Inv-loop μ-loop
+loop-again-7 c = search serve-temperature
+
+enum-known-ask-7 : tie.Need-enum-known-ask-7 Inv-loop μ-loop
+enum-known-ask-7 c = search needs
+
+answer-group-requires : tie.Need-answer-group-requires Inv-loop μ-loop
+answer-group-requires c κs = search needs
+
+put-answer-requires-2 : tie.Need-put-answer-requires-2 Inv-loop μ-loop
+put-answer-requires-2 c κs = search serve-fits
+
+loop-less-8 : tie.Need-loop-less-8 Inv-loop μ-loop
+loop-less-8 c = search serve-less
+
+loop-again-8 : tie.Need-loop-again-8 Inv-loop μ-loop
+loop-again-8 c = 
+    let at-answer = c .before .before .before .before .before .before .before .before in
+    let at-kind = at-answer .before .before .before in
+    let at-ask = at-kind .before .before in
+    let at-tag = at-ask .before .before .before in
+    let at-step = at-tag .before .before in
+    serve-frame _ _ _ _ _ _ _ (at-step .before .before .loop .inv) (at-step .step-at .ensures) (at-tag .st .given .1) (at-ask .ask-at .ensures) (c .before .before .put-answer2 .ensures) (at-kind .ask7 .given .1) (at-answer .before .if1 .taken) (at-answer .answer-group .ensures)
+
+loop-less-9 : tie.Need-loop-less-9 Inv-loop μ-loop
+loop-less-9 c = search serve-less
+
+loop-again-9 : tie.Need-loop-again-9 Inv-loop μ-loop
+loop-again-9 c = 
+    let at-kind = c .before .before in
+    let at-ask = at-kind .before .before in
+    let at-tag = at-ask .before .before .before in
+    let at-step = at-tag .before .before in
+    serve-left _ _ _ _ _ _ _ (at-step .before .before .loop .inv) (at-step .step-at .ensures) (at-tag .st .given .1) (at-ask .ask-at .ensures) (at-kind .ask7 .given .1) (c .if1 .left)
+
+pub serve-spec : {M : Type 1} → statement M
+serve-spec =
+    tie.close
+    (tie.spec
+    Inv-loop
+    μ-loop
+    loop-holds
+    step-at-requires
+    enum-known-st
+    same-length
+    returns
+    ask-at-requires
+    enum-told
+    same-length-2
+    returns-2
+    enum-told-2
+    loop-less
+    loop-again
+    enum-known-ask
+    put-pair-requires
+    loop-less-2
+    loop-again-2
+    enum-known-ask-2
+    answer-fact-requires
+    put-answer-requires
+    loop-less-3
+    loop-again-3
+    enum-known-ask-3
+    mul-power-after
+    element-copy-out-power-after
+    power-after-requires
+    mul-d
+    element-set-from-d
+    power-value-requires
+    put-pair-requires-2
+    loop-less-4
+    loop-again-4
+    enum-known-ask-4
+    mul-clock-after
+    element-copy-out-clock-after
+    clock-after-requires
+    mul-c
+    element-set-from-c
+    clock-value-requires
+    put-pair-requires-3
+    loop-less-5
+    loop-again-5
+    enum-known-ask-5
+    mul-voltage-after
+    element-copy-out-voltage-after
+    voltage-after-requires
+    mul-v
+    element-set-from-v
+    voltage-value-requires
+    put-pair-requires-4
+    loop-less-6
+    loop-again-6
+    enum-known-ask-6
+    temperature-value-requires
+    put-pair-requires-5
+    loop-less-7
+    loop-again-7
+    enum-known-ask-7
+    answer-group-requires
+    put-answer-requires-2
+    loop-less-8
+    loop-again-8
+    loop-less-9
+    loop-again-9)
