@@ -1,3 +1,4 @@
 pub mod Align
 pub mod Decision
 pub mod Kept
+pub mod Operation

@@ -1,14 +1,12 @@
 -- The decision on an operation.
-use mathlib.Core.Bool.{Bool, true, false, not, cond, _&&_}
+use mathlib.Core.Bool.{Bool, true, false, cond, _&&_}
 use Prim.Native.Nat.{ℕ, _+_}
 use lib.Count.{onesIn}
 use lib.Dec.{eqb, leb}
 use Rattle.words.specs.Round.{roundUp}
 use Rattle.board.specs.Display.{pitch, need, supported}
 use Rattle.board.specs.declared.display.Display.{Display}
-use Rattle.board.specs.declared.display.Offset.{Offset}
 use Rattle.board.specs.declared.display.Settings.{Settings}
-use Rattle.board.specs.declared.display.Size.{Size}
 use Rattle.board.specs.declared.facts.Span.{Span}
 use Rattle.tags.specs.declared.answer.Answer.{Answer}
 use Rattle.tags.specs.declared.table.FrameTag.{FrameTag}

@@ -1,5 +1,5 @@
 -- All group tags of a message as one operation.
-use mathlib.Core.Bool.{Bool, true, false}
+use mathlib.Core.Bool.{true, false}
 use Prim.Native.Nat.{ℕ}
 use Rattle.board.specs.declared.display.Settings.{Settings}
 use Rattle.board.specs.declared.display.Offset.{Offset}

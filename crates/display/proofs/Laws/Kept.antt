@@ -13,7 +13,7 @@ use Rattle.board.specs.declared.display.Display.{Display}
 use Rattle.board.specs.declared.facts.Span.{Span}
 use Rattle.board.proofs.Laws.Display.{need-least, supported-is}
 use Rattle.board.proofs.Laws.Valid.{display-parts, parts-display, buffer-stands, buffer-valid, no-buffer-valid}
-use Rattle.display.specs.Decision.{placedAt, fitsBuffer, accepted, bufferAfter, showing, tested, carriedOut, decidedBy, decided}
+use Rattle.display.specs.Decision.{placedAt, accepted, bufferAfter, showing, tested, carriedOut, decidedBy, decided}
 use Rattle.display.specs.Operation.{unasked}
 use Rattle.display.specs.declared.decision.Decision.{Decision}
 use Rattle.display.specs.declared.operation.Operation.{Operation}
@@ -69,6 +69,9 @@ module _ (d : Display) (o : Operation) where
 
   pub tests-same : o .tests ≡ true → decided d o .display ≡ d
   tests-same t = ap (λ (r : Decision). r .display) (sym (decided-by d o t refl)) ∙ tested-same (o .others) (supported (d .region .size) (o .proposal)) refl
+
+  pub refused-same : accepted d o ≡ false → decided d o .display ≡ d
+  refused-same e = decided-cases d o (λ (r : Decision). r .display ≡ d) refl refl (λ s. refl) (λ a. absurd (let z : true ≡ false = sym a ∙ e in let y : _≡_ {A = ℕ} 0 1 = cc in omega arith))
 
 -- the operation with no tags
 pub unasked-shows : (d : Display) → decided d (unasked (d .settings)) ≡ showing (d .settings) d

@@ -1,5 +1,5 @@
 use Rattle.display.proofs.Laws.Decision.{valid-possible, decided-by, carried-out-by}
-use mathlib.Core.Path.{sym, ap, _∙_}
+use mathlib.Core.Path.{sym, _∙_}
 use borrow.Author.Needs.{needs}
 use Rattle.display.proofs.decision.decide.Statement.{statement}
 use Rattle.display.proofs.decision.decide.Tie as tie

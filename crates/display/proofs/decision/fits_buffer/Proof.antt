@@ -1,7 +1,4 @@
 use Rattle.display.proofs.Laws.Decision.{none-stands, one-stands}
-use mathlib.Core.Path.{ap, _∙_}
-use lib.Dec.{leb}
-use Prim.Native.Nat.{ℕ}
 use borrow.Author.Needs.{needs}
 use Rattle.display.proofs.decision.fits_buffer.Statement.{statement}
 use Rattle.display.proofs.decision.fits_buffer.Tie as tie

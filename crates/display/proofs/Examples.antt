@@ -1,0 +1,137 @@
+-- Worked examples, as one statement over a list of cases.
+use mathlib.Core.Bool.{Bool, true, false, cond}
+use mathlib.Core.List.{List, [], _∷_, map}
+use mathlib.Core.Path.{_≡_, refl}
+use Prim.Native.Nat.{ℕ}
+use lib.Count.{onesIn}
+use Rattle.board.specs.Bench.{benchDisplay}
+use Rattle.board.specs.Display.{pitchOf, pitch, need, sides, depths, offsets, possible, supported}
+use Rattle.board.specs.declared.display.Display.{Display}
+use Rattle.board.specs.declared.facts.Span.{Span}
+use Rattle.tags.specs.declared.answer.Answer.{Answer}
+use Rattle.tags.specs.declared.table.FrameTag.{FrameTag}
+use Rattle.tags.specs.declared.table.Mode.{Mode}
+use Rattle.tags.specs.declared.table.Setting.{Setting}
+use Rattle.display.specs.Decision.{span, nowhere, oneBit, placedAt, allocatable, fitsBuffer, accepted, decided, groupAnswer}
+use Rattle.display.specs.Operation.{size, withSetting, unasked, noted}
+use Rattle.display.specs.declared.decision.Decision.{Decision}
+use Rattle.display.specs.declared.operation.Operation.{Operation}
+
+-- a group tag with its request's words
+pub record Asked : Type 0 where
+  pub tag : FrameTag
+  pub first : ℕ
+  pub second : ℕ
+
+pub data Question : Type 0 where
+  Alignment : (a : ℕ) → Question
+  Row : (width depth : ℕ) → Question
+  Group : Display → List Asked → Question
+
+pub data Reply : Type 0 where
+  Good : Bool → Reply
+  Bytes : ℕ → Reply
+  Told : List Answer → (afterwards : Display) → Reply
+
+pub record Case : Type 0 where
+  pub question : Question
+  pub reply : Reply
+
+abbrev pub operation : Operation → List Asked → Operation
+operation o [] = o
+operation o (t ∷ ts) = operation (noted (t .tag) (t .first) (t .second) o) ts
+
+abbrev pub decision : Display → List Asked → Decision
+decision d ts = decided d (operation (unasked (d .settings)) ts)
+
+-- what the tags answer, one after the other; nothing where they are not answered
+abbrev pub answers : Decision → List Asked → List Answer
+answers r ts = cond (r .answered) (map (λ (t : Asked). groupAnswer r (t .tag)) ts) []
+
+abbrev pub replyTo : Question → Reply
+replyTo (Alignment a) = Good (oneBit a)
+replyTo (Row width depth) = Bytes (pitchOf width depth)
+replyTo (Group d ts) = Told (answers (decision d ts) ts) (decision d ts .display)
+
+abbrev pub case : Question → Reply → Case
+case q r = record { question = q; reply = r }
+
+-- ---- tags
+abbrev pub get : Setting → Asked
+get s = record { tag = FrameTag.Of Mode.Get s; first = 0; second = 0 }
+
+abbrev pub test : Setting → (a b : ℕ) → Asked
+test s a b = record { tag = FrameTag.Of Mode.Test s; first = a; second = b }
+
+abbrev pub set : Setting → (a b : ℕ) → Asked
+set s a b = record { tag = FrameTag.Of Mode.Set s; first = a; second = b }
+
+abbrev pub row : Asked
+row = record { tag = FrameTag.Pitch; first = 0; second = 0 }
+
+abbrev pub allocate : (alignment : ℕ) → Asked
+allocate a = record { tag = FrameTag.Allocate; first = a; second = 0 }
+
+abbrev pub release : Asked
+release = record { tag = FrameTag.Release; first = 0; second = 0 }
+
+-- ---- displays
+-- both sizes the same
+abbrev pub screen : (width height depth : ℕ) (region buffer : Span) → Display
+screen width height depth region buffer = record {
+  region = region;
+  settings = record { physical = size width height; logical = size width height; offset = record { x = 0; y = 0 }; depth = depth; order = 1; alpha = 2 };
+  buffer = buffer;
+}
+
+abbrev pub region : Span
+region = span 0x3C00_0000 8_388_608
+
+-- 640 x 480 at depth 24, with no buffer and with one
+abbrev pub lab : Display
+lab = screen 640 480 24 region nowhere
+
+abbrev pub place : Answer
+place = Answer.Pair 0x3C00_0000 0x000E_1000
+
+abbrev pub standing : Display
+standing = screen 640 480 24 region (span 0x3C00_0000 0x000E_1000)
+
+-- 4,096 x 4,096, and a region that ends at the top of memory
+abbrev pub large : (base length : ℕ) (buffer : Span) → Display
+large base length buffer = screen 4096 4096 32 (span base length) buffer
+
+unfoldable pub cases : List Case
+cases =
+    case (Alignment 0) (Good false)
+    ∷ case (Alignment 24) (Good false)
+    ∷ case (Alignment 1) (Good true)
+    ∷ case (Alignment 16) (Good true)
+    ∷ case (Alignment 0x8000_0000) (Good true)
+    ∷ case (Row 641 24) (Bytes 1952)
+    ∷ case (Row 1 8) (Bytes 32)
+    -- two messages: the sets, then the buffer
+    ∷ case (Group benchDisplay (set Setting.Physical 640 480 ∷ set Setting.Virtual 640 480 ∷ set Setting.Depth 24 0 ∷ [])) (Told (Answer.Pair 640 480 ∷ Answer.Pair 640 480 ∷ Answer.Word 24 ∷ []) lab)
+    ∷ case (Group lab (allocate 16 ∷ [])) (Told (place ∷ []) standing)
+    -- alignments
+    ∷ case (Group lab (allocate 0 ∷ [])) (Told (Answer.Pair 0 0 ∷ []) lab)
+    ∷ case (Group lab (allocate 24 ∷ [])) (Told (Answer.Pair 0 0 ∷ []) lab)
+    ∷ case (Group lab (allocate 1 ∷ [])) (Told (place ∷ []) standing)
+    ∷ case (Group lab (allocate 24 ∷ allocate 16 ∷ [])) (Told (place ∷ place ∷ []) standing)
+    ∷ case (Group (large 0x8000_0000 0x7FFF_FFFF nowhere) (allocate 0x8000_0000 ∷ [])) (Told (Answer.Pair 0x8000_0000 0x0400_0000 ∷ []) (large 0x8000_0000 0x7FFF_FFFF (span 0x8000_0000 0x0400_0000)))
+    ∷ case (Group (large 0x8000_0001 0x7FFF_FFFE nowhere) (allocate 0x8000_0000 ∷ [])) (Told (Answer.Pair 0 0 ∷ []) (large 0x8000_0001 0x7FFF_FFFE nowhere))
+    -- tests
+    ∷ case (Group standing (test Setting.Depth 8 0 ∷ test Setting.Depth 16 0 ∷ [])) (Told (Answer.Word 16 ∷ Answer.Word 16 ∷ []) standing)
+    ∷ case (Group standing (test Setting.Depth 12 0 ∷ [])) (Told (Answer.Word 24 ∷ []) standing)
+    ∷ case (Group standing (set Setting.Depth 16 0 ∷ test Setting.Depth 8 0 ∷ release ∷ [])) (Told [] standing)
+    -- sets and gets
+    ∷ case (Group lab (get Setting.Depth ∷ set Setting.Depth 8 0 ∷ set Setting.Depth 32 0 ∷ row ∷ [])) (Told (Answer.Word 32 ∷ Answer.Word 32 ∷ Answer.Word 32 ∷ Answer.Word 2560 ∷ []) (screen 640 480 32 region nowhere))
+    ∷ case (Group standing (set Setting.Depth 32 0 ∷ [])) (Told (Answer.Word 24 ∷ []) standing)
+    ∷ case (Group standing (set Setting.Depth 32 0 ∷ release ∷ [])) (Told (Answer.Word 32 ∷ Answer.Nothing ∷ []) (screen 640 480 32 region nowhere))
+    ∷ case (Group standing (set Setting.Depth 25 0 ∷ release ∷ [])) (Told (Answer.Word 24 ∷ Answer.Nothing ∷ []) standing)
+    ∷ case (Group standing (allocate 16 ∷ release ∷ [])) (Told (place ∷ Answer.Nothing ∷ []) standing)
+    ∷ []
+
+pub examples : map (λ (c : Case). replyTo (c .question)) cases ≡ map (λ (c : Case). c .reply) cases
+unfolding cases oneBit onesIn pitch need sides depths offsets possible supported withSetting noted placedAt allocatable fitsBuffer accepted decided groupAnswer
+examples = refl
