@@ -130,7 +130,8 @@ fn show(s: Settings, d: Display) -> Decision
     }
 }
 
-fn refuse_mixed(d: Display) -> Decision
+// The group is not answered, and nothing changes. No entry point: for a valid display.
+pub fn leave(d: Display) -> Decision
     requires { ⌜ validDisplay d ≡ true ⌝ }
     ensures { λ r. ⌜ r ≡ mixed d ⌝ }
 {
@@ -175,7 +176,7 @@ pub fn decide(d: Display, o: Operation) -> Decision
 {
     if o.tests {
         if o.others {
-            return refuse_mixed(d);
+            return leave(d);
         }
         return test(d, o);
     }

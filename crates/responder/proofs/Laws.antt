@@ -3,3 +3,4 @@ pub mod Said
 pub mod Trails
 pub mod Scanning
 pub mod Serving
+pub mod Responding

@@ -41,12 +41,12 @@ operation o [] = o
 operation o (r ∷ rs) = operation (noteBy r o) rs
 
 -- in a faultless message the operation is decided on the record as it came; after a fault the group is not carried out
-abbrev pub groupIf : (faultless : Bool) → Display → List Request → Decision
-groupIf true d rs = decided d (operation (unasked (d .settings)) rs)
-groupIf false d rs = mixed d
+abbrev pub groupBy : (faultless : Bool) → Display → Operation → Decision
+groupBy true d o = decided d o
+groupBy false d o = mixed d
 
 unfoldable pub groupOf : Display → Ending → List Request → Decision
-groupOf d e rs = groupIf (eqb (e .outcome) done) d rs
+groupOf d e rs = groupBy (eqb (e .outcome) done) d (operation (unasked (d .settings)) rs)
 
 -- ---- the answers
 -- a tag says nothing, or its whole answer

@@ -183,7 +183,7 @@ module _ (g : Decision) (m₀ : List ℕ) (size : ℕ) (b₀ : Board) (m : List 
         pub serve-frame : {k : FrameTag} {a c : ℕ} → q ≡ Ask.Frame k a c → g .answered ≡ true → x ≡ groupAnswer g k → Serving g m₀ size b₀ m′ b next
         unfolding saidOf afterOf
         serve-frame {k} e ga ex =
-            serve-on (not-short e (λ z. let c : _≡_ {A = ℕ} 0 1 = cc in omega arith)) 
+            serve-on (not-short e (λ z. let c : _≡_ {A = ℕ} 0 1 = cc in omega arith))
             (rw e (em ∙ ap (λ (y : Answer). answered (t .at) (t .size) (answerBytes (b .facts) (b .line) y) m) ex
             ∙ ap (λ (y : Bool). written t (cond y (says (answerBytes (b .facts) (b .line) (groupAnswer g k))) silent) m) (sym ga))) (rw e)
 

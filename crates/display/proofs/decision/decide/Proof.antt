@@ -4,11 +4,11 @@ use borrow.Author.Needs.{needs}
 use Rattle.display.proofs.decision.decide.Statement.{statement}
 use Rattle.display.proofs.decision.decide.Tie as tie
 
-refuse-mixed-requires : tie.Need-refuse-mixed-requires
-refuse-mixed-requires c κs = search needs
+leave-requires : tie.Need-leave-requires
+leave-requires c κs = search needs
 
 returns : tie.Need-returns
-returns c = c .refuse-mixed .ensures ∙ decided-by _ _ (c .before .before .if1 .taken) (c .before .if2 .taken)
+returns c = c .leave .ensures ∙ decided-by _ _ (c .before .before .if1 .taken) (c .before .if2 .taken)
 
 test-requires : tie.Need-test-requires
 test-requires c κs = search needs
@@ -35,7 +35,7 @@ pub decide-spec : {M : Type 1} → statement M
 decide-spec =
     tie.close
     (tie.spec
-    refuse-mixed-requires
+    leave-requires
     returns
     test-requires
     returns-2

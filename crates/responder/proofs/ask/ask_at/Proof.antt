@@ -4,11 +4,6 @@ use Rattle.responder.proofs.Laws.Asks.{ask-response, ask-unknown, ask-s
 use borrow.Author.Needs.{needs}
 use Rattle.responder.proofs.ask.ask_at.Statement.{statement}
 use Rattle.responder.proofs.ask.ask_at.Tie as tie
-use Rattle.responder.proofs.ask.ask_at.Reads as reads
-use Rattle.responder.proofs.ask.ask_at.Lts as lts
-use Rattle.responder.proofs.ask.ask_kind.Reads as ask-kind-reads
-use Rattle.responder.proofs.ask.word_of.Reads as word-of-reads
-use Rattle.tags.proofs.table.row_of.Reads as row-of-reads
 
 returns : tie.Need-returns
 returns c = search ask-response

@@ -2,9 +2,6 @@ use Rattle.responder.proofs.Laws.Asks.{word-none, word-there}
 use borrow.Author.Needs.{needs}
 use Rattle.responder.proofs.ask.word_of.Statement.{statement}
 use Rattle.responder.proofs.ask.word_of.Tie as tie
-use Rattle.responder.proofs.ask.word_of.Reads as reads
-use Rattle.responder.proofs.ask.word_of.Lts as lts
-use Rattle.words.proofs.numbers.u32_at.Reads as u32-at-reads
 
 returns : tie.Need-returns
 returns c = search word-none

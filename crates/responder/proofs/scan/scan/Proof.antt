@@ -3,14 +3,6 @@ use borrow.Author.Needs.{needs}
 use Rattle.responder.proofs.Laws.Scanning.{Scanning, scan-start, scan-stop, scan-less, scan-in, scan-short, scan-group, scan-other}
 use Rattle.responder.proofs.scan.scan.Statement.{statement}
 use Rattle.responder.proofs.scan.scan.Tie as tie
-use Rattle.responder.proofs.scan.scan.Reads as reads
-use Rattle.responder.proofs.scan.scan.Lts as lts
-use Rattle.display.proofs.operation.note.Reads as note-reads
-use Rattle.display.proofs.operation.start.Reads as start-reads
-use Rattle.message.proofs.walk.ended.Reads as ended-reads
-use Rattle.message.proofs.walk.step_at.Reads as step-at-reads
-use Rattle.responder.proofs.ask.ask_at.Reads as ask-at-reads
-use Rattle.responder.proofs.scan.sort_of.Reads as sort-of-reads
 
 abbrev Inv-loop : tie.InvT-loop
 Inv-loop msg size operation₀ p₀ operation p = Scanning msg size operation₀ operation p

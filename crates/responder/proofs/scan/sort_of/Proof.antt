@@ -2,86 +2,66 @@ use Rattle.responder.specs.Scan.{sortOf}
 use borrow.Author.Needs.{needs}
 use Rattle.responder.proofs.scan.sort_of.Statement.{statement}
 use Rattle.responder.proofs.scan.sort_of.Tie as tie
-use Rattle.responder.proofs.scan.sort_of.Reads as reads
-use Rattle.responder.proofs.scan.sort_of.Lts as lts
 
--- src/scan.rt:39:23
 enum-told : tie.Need-enum-told
 enum-told c = search needs
 
--- src/scan.rt:40:20
 enum-known-ask : tie.Need-enum-known-ask
 enum-known-ask c = search needs
 
--- src/scan.rt:41:22
 enum-told-2 : tie.Need-enum-told-2
 enum-told-2 c = search needs
 
--- src/scan.rt:42:29
 enum-told-3 : tie.Need-enum-told-3
 enum-told-3 c = search needs
 
--- src/scan.rt:43:25
 enum-told-4 : tie.Need-enum-told-4
 enum-told-4 c = search needs
 
--- src/scan.rt:44:35
 enum-told-5 : tie.Need-enum-told-5
 enum-told-5 c = search needs
 
--- src/scan.rt:45:35
 enum-told-6 : tie.Need-enum-told-6
 enum-told-6 c = search needs
 
--- src/scan.rt:46:37
 enum-told-7 : tie.Need-enum-told-7
 enum-told-7 c = search needs
 
--- src/scan.rt:47:35
 enum-told-8 : tie.Need-enum-told-8
 enum-told-8 c = search needs
 
--- src/scan.rt:35:1
 returns : tie.Need-returns
 unfolding sortOf
 returns c = cc
 
--- src/scan.rt:35:1
 returns-2 : tie.Need-returns-2
 unfolding sortOf
 returns-2 c = cc
 
--- src/scan.rt:35:1
 returns-3 : tie.Need-returns-3
 unfolding sortOf
 returns-3 c = cc
 
--- src/scan.rt:35:1
 returns-4 : tie.Need-returns-4
 unfolding sortOf
 returns-4 c = cc
 
--- src/scan.rt:35:1
 returns-5 : tie.Need-returns-5
 unfolding sortOf
 returns-5 c = cc
 
--- src/scan.rt:35:1
 returns-6 : tie.Need-returns-6
 unfolding sortOf
 returns-6 c = cc
 
--- src/scan.rt:35:1
 returns-7 : tie.Need-returns-7
 unfolding sortOf
 returns-7 c = cc
 
--- src/scan.rt:35:1
 returns-8 : tie.Need-returns-8
 unfolding sortOf
 returns-8 c = cc
 
--- src/scan.rt:35:1
 returns-9 : tie.Need-returns-9
 unfolding sortOf
 returns-9 c = cc

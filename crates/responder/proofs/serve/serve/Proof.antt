@@ -6,21 +6,6 @@ use borrow.Author.Needs.{needs}
 use Rattle.responder.proofs.Laws.Serving.{Serving, serve-start, serve-stop, serve-less, serve-in, serve-fits, serve-pair, serve-short, serve-pass, serve-fixed, serve-power, serve-clock, serve-voltage, serve-temperature, serve-fact, serve-frame, serve-left, within-devices, within-clocks, within-voltages}
 use Rattle.responder.proofs.serve.serve.Statement.{statement}
 use Rattle.responder.proofs.serve.serve.Tie as tie
-use Rattle.responder.proofs.serve.serve.Reads as reads
-use Rattle.responder.proofs.serve.serve.Lts as lts
-use Rattle.display.proofs.decision.answer_group.Reads as answer-group-reads
-use Rattle.message.proofs.walk.step_at.Reads as step-at-reads
-use Rattle.responder.proofs.ask.ask_at.Reads as ask-at-reads
-use Rattle.tags.proofs.clock.clock_after.Reads as clock-after-reads
-use Rattle.tags.proofs.clock.clock_value.Reads as clock-value-reads
-use Rattle.tags.proofs.fact.answer_fact.Reads as answer-fact-reads
-use Rattle.tags.proofs.power.power_after.Reads as power-after-reads
-use Rattle.tags.proofs.power.power_value.Reads as power-value-reads
-use Rattle.tags.proofs.reply.put_answer.Reads as put-answer-reads
-use Rattle.tags.proofs.reply.put_pair.Reads as put-pair-reads
-use Rattle.tags.proofs.temperature.temperature_value.Reads as temperature-value-reads
-use Rattle.tags.proofs.voltage.voltage_after.Reads as voltage-after-reads
-use Rattle.tags.proofs.voltage.voltage_value.Reads as voltage-value-reads
 
 abbrev Inv-loop : tie.InvT-loop
 Inv-loop msg₀ size group b₀ p₀ msg b p = Serving group msg₀ size b₀ msg b p
@@ -29,7 +14,7 @@ abbrev μ-loop : tie.MeasureT-loop
 μ-loop msg₀ size group b₀ p₀ msg b p = size - p
 
 loop-holds : tie.Need-loop-holds Inv-loop μ-loop
-loop-holds c = 
+loop-holds c =
     let l : length (c .before .args .board .line) ≡ 256 = search needs in
     serve-start _ _ _ _ (c .before .pre) (omega (arith, l))
 
@@ -64,7 +49,7 @@ loop-less : tie.Need-loop-less Inv-loop μ-loop
 loop-less c = search serve-less
 
 loop-again : tie.Need-loop-again Inv-loop μ-loop
-loop-again c = 
+loop-again c =
     let at-ask = c .before .before in
     let at-tag = at-ask .before .before .before in
     let at-step = at-tag .before .before in
@@ -95,7 +80,7 @@ loop-less-3 : tie.Need-loop-less-3 Inv-loop μ-loop
 loop-less-3 c = search serve-less
 
 loop-again-3 : tie.Need-loop-again-3 Inv-loop μ-loop
-loop-again-3 c = 
+loop-again-3 c =
     let at-answer = c .before .before .before .before .before .before .before .before in
     let at-kind = at-answer .before .before .before in
     let at-ask = at-kind .before .before in
@@ -221,7 +206,7 @@ loop-less-8 : tie.Need-loop-less-8 Inv-loop μ-loop
 loop-less-8 c = search serve-less
 
 loop-again-8 : tie.Need-loop-again-8 Inv-loop μ-loop
-loop-again-8 c = 
+loop-again-8 c =
     let at-answer = c .before .before .before .before .before .before .before .before in
     let at-kind = at-answer .before .before .before in
     let at-ask = at-kind .before .before in
@@ -233,7 +218,7 @@ loop-less-9 : tie.Need-loop-less-9 Inv-loop μ-loop
 loop-less-9 c = search serve-less
 
 loop-again-9 : tie.Need-loop-again-9 Inv-loop μ-loop
-loop-again-9 c = 
+loop-again-9 c =
     let at-kind = c .before .before in
     let at-ask = at-kind .before .before in
     let at-tag = at-ask .before .before .before in
