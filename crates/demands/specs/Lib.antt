@@ -1,1 +1,4 @@
 pub mod Listing
+pub mod Examples
+pub mod Kept
+pub mod Changes

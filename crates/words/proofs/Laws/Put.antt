@@ -5,7 +5,7 @@ use Prim.Native.Nat.{ℕ, zero, suc, _+_, _/_, _%_, _^_, _≤_, _<_}
 use native.Mathlib.Nat.{not-suc-le-zero, zero-add, suc-add}
 use native.Mathlib.Numerals.{add-one}
 use native.Mathlib.Omega.{arith}
-use lib.ListN.{length, take, drop, set}
+use lib.ListN.{length, take, drop, getD, set}
 use Rattle.words.proofs.Laws.Numbers.{le-add, length-le, unle-le}
 use Rattle.words.specs.Numbers.{le, unle, numberAt}
 use Rattle.words.specs.Put.{over, put}
@@ -106,3 +106,22 @@ number-put k p n m h l =
     let e : length (le k n) ≡ k = length-le k n in
     let r : take k (drop p (put p (le k n) m)) ≡ le k n = rw e at (read-put p (le k n) m (omega arith)) in
     rw r (unle-le k n h)
+
+-- a byte outside what is written stays
+over-outside : (bs m : List ℕ) (i : ℕ) → length bs ≤ i → getD (over bs m) i 0 ≡ getD m i 0
+over-outside [] m i h = refl
+over-outside (b ∷ bs) [] i h = refl
+over-outside (b ∷ bs) (x ∷ m) zero h = absurd (not-suc-le-zero h)
+over-outside (b ∷ bs) (x ∷ m) (suc i) h = over-outside bs m i (omega arith)
+
+pub put-before : (p : ℕ) (bs m : List ℕ) (i : ℕ) → i < p → getD (put p bs m) i 0 ≡ getD m i 0
+put-before zero bs m i h = absurd (not-suc-le-zero h)
+put-before (suc p) bs [] i h = refl
+put-before (suc p) bs (x ∷ m) zero h = refl
+put-before (suc p) bs (x ∷ m) (suc i) h = put-before p bs m i (omega arith)
+
+pub put-after : (p : ℕ) (bs m : List ℕ) (i : ℕ) → p + length bs ≤ i → getD (put p bs m) i 0 ≡ getD m i 0
+put-after zero bs m i h = over-outside bs m i (omega arith)
+put-after (suc p) bs [] i h = refl
+put-after (suc p) bs (x ∷ m) zero h = absurd (omega arith)
+put-after (suc p) bs (x ∷ m) (suc i) h = put-after p bs m i (omega arith)
