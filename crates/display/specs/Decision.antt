@@ -29,7 +29,7 @@ oneBit a = eqb (onesIn 32 a) 1
 unfoldable pub placedAt : Display → Operation → Span
 placedAt d o = span (roundUp (o .alignment) (d .region .base)) (need (o .proposal))
 
--- with an allocate tag: the last one's alignment is good, and the buffer leaves the region's end alone
+-- with an allocate tag: the last one's alignment is good, and from that base on the region has room for need
 unfoldable pub allocatable : Display → Operation → Bool
 allocatable d o = oneBit (o .alignment) && leb (placedAt d o .base + placedAt d o .size) (d .region .base + d .region .size)
 

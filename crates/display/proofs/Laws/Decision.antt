@@ -57,7 +57,7 @@ module _ (d : Display) (o : Operation) where
   placed-fits v e a = let region = display-parts d v .region in let room = accepted-placed e a .last in omega arith
 
 -- ---- the buffer afterwards
-pub buffer-after : (allocates releases : Bool) (d : Display) (o : Operation)
+buffer-after : (allocates releases : Bool) (d : Display) (o : Operation)
     → cond allocates (cond allocates (placedAt d o) nowhere) (cond releases nowhere (d .buffer)) ≡ bufferAfter allocates releases d o
 buffer-after true releases d o = refl
 buffer-after false true d o = refl
@@ -81,7 +81,7 @@ module _ (d : Display) (o : Operation) where
   unfolding allocatable placedAt
   allocatable-by e eb es = rw (e, eb, es)
 
-  -- no buffer stands, or it is released
+  -- without an allocate: no buffer stands, or one does
   pub none-stands : d .buffer .size ≡ 0 → true ≡ fitsBuffer d o
   unfolding fitsBuffer
   none-stands e = sym (ap (λ (n : ℕ). cond (eqb n 0) true (cond (o .releases) true (leb (need (o .proposal)) (d .buffer .size)))) e)
