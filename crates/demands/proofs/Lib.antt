@@ -1,4 +1,6 @@
 pub mod Laws
-pub mod Listing
+pub mod Changes
 pub mod Examples
+pub mod Kept
+pub mod Listing
 pub mod ListingMet

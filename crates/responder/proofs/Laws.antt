@@ -3,4 +3,5 @@ pub mod Said
 pub mod Trails
 pub mod Scanning
 pub mod Serving
+pub mod Endings
 pub mod Responding

@@ -69,3 +69,13 @@ module _ (m : List ℕ) where
     pub open-bad : good ≡ false → Refused badSize ≡ opened m
     unfolding opened
     open-bad g = rw (le-ltb (length m) smallest h, ← z, ← e, g)
+
+-- an opened message has the size that its size word says
+pub opened-size : (m : List ℕ) {message : Message} → opened m ≡ Opened.Good message → message .size ≡ word m 0
+unfolding opened
+opened-size m {message} e = go (ltb (length m) smallest) (goodSize (word m 0) (length m)) e
+  where
+    go : (few good : Bool) → cond few (Refused tooFewLent) (cond good (Good (record { size = word m 0 })) (Refused badSize)) ≡ Good message → message .size ≡ word m 0
+    go true good q = let z : _≡_ {A = ℕ} 0 1 = cc in absurd (omega arith)
+    go false false q = let z : _≡_ {A = ℕ} 0 1 = cc in absurd (omega arith)
+    go false true q = cc

@@ -1,0 +1,105 @@
+-- What a call changes of a message.
+use mathlib.Core.Bool.{Bool, true, false, cond}
+use mathlib.Core.List.{List, [], _∷_}
+use mathlib.Core.Logic.{_⊎_, inl, inr, ⊎-elim}
+use mathlib.Core.Path.{_≡_, refl, sym, ap, _∙_}
+use Prim.Native.Nat.{ℕ, zero, suc, _+_, _≤_, _<_, min}
+use native.Mathlib.Omega.{arith}
+use lib.Dec.{ltb, eqb}
+use lib.ListN.{length, take, getD, length-take}
+use Rattle.words.proofs.Laws.Put.{length-put, put-before, put-after}
+use Rattle.words.specs.Numbers.{le, word}
+use Rattle.words.specs.Put.{put}
+use Rattle.message.proofs.Laws.Opening.{opened-size}
+use Rattle.message.specs.Opening.{opened, goodSize}
+use Rattle.message.specs.Outcomes.{done, tooFewLent, badSize, notRequest, noEnd, runsOver, shortRequest, invalidBoard}
+use Rattle.message.specs.Sizes.{header, tagHeader, codePlace}
+use Rattle.message.specs.Walk.{wordPlace}
+use Rattle.message.specs.declared.opening.Message.{Message}
+use Rattle.message.specs.declared.opening.Opened.{Opened}
+use Rattle.message.specs.declared.walk.Tag.{Tag}
+use Rattle.board.specs.Valid.{valid}
+use Rattle.board.specs.declared.record.Board.{Board}
+use Rattle.tags.specs.Reply.{answered}
+use Rattle.responder.proofs.Laws.Endings.{ending-known}
+use Rattle.responder.specs.Answers.{Said, silent, says, groupOf, answers}
+use Rattle.responder.specs.Reply.{written, writeAll, codeOf, coded, served, codedIf, openedIf, validIf, reply}
+use Rattle.responder.specs.Requests.{Trail, trail}
+use Rattle.demands.specs.Changes.{Outside, Unanswered, trailOf, saidOf, Changes, Lengths, Refusals}
+
+-- ---- writes
+put-outside : (p : ℕ) (bs m : List ℕ) (i n : ℕ) → length bs ≡ n → Outside i p n → getD (put p bs m) i 0 ≡ getD m i 0
+put-outside p bs m i n e (inl h) = put-before p bs m i h
+put-outside p bs m i n e (inr h) = put-after p bs m i (omega arith)
+
+answered-outside : (at size : ℕ) (answer m : List ℕ) (i : ℕ) → Outside i (at + wordPlace) 4 → Outside i (at + tagHeader) (min (length answer) size) → getD (answered at size answer m) i 0 ≡ getD m i 0
+unfolding answered
+answered-outside at size answer m i w v =
+    let l : length (take size answer) ≡ min (length answer) size = simp length-take (omega arith) in
+    put-outside (at + tagHeader) (take size answer) (put (at + wordPlace) (le 4 (0x8000_0000 + length answer)) m) i (min (length answer) size) l v
+    ∙ put-outside (at + wordPlace) (le 4 (0x8000_0000 + length answer)) m i 4 refl w
+
+writes-outside : (ts : List Tag) (ss : List Said) (m : List ℕ) (i : ℕ) → Unanswered ts ss i → getD (writeAll ts ss m) i 0 ≡ getD m i 0
+writes-outside [] ss m i u = refl
+writes-outside (t ∷ ts) [] m i u = refl
+writes-outside (t ∷ ts) (silent ∷ ss) m i u = writes-outside ts ss m i u
+writes-outside (t ∷ ts) (says answer ∷ ss) m i u =
+    writes-outside ts ss (answered (t .at) (t .size) answer m) i (u .2) ∙ answered-outside (t .at) (t .size) answer m i (u .0) (u .1)
+
+writes-length : (ts : List Tag) (ss : List Said) (m : List ℕ) → length (writeAll ts ss m) ≡ length m
+unfolding answered
+writes-length [] ss m = refl
+writes-length (t ∷ ts) [] m = refl
+writes-length (t ∷ ts) (silent ∷ ss) m = writes-length ts ss m
+writes-length (t ∷ ts) (says answer ∷ ss) m =
+    writes-length ts ss (answered (t .at) (t .size) answer m)
+    ∙ length-put (t .at + tagHeader) (take (t .size) answer) (put (t .at + wordPlace) (le 4 (0x8000_0000 + length answer)) m)
+    ∙ length-put (t .at + wordPlace) (le 4 (0x8000_0000 + length answer)) m
+
+-- ---- the cases of a reply: untouched, or served
+data Replied (b : Board) (m : List ℕ) : Type 0 where
+  untouched : reply b m .bytes ≡ m → reply b m .answer .board ≡ b → Replied b m
+  walked : reply b m ≡ served b m (word m 0) → Replied b m
+
+replied : (b : Board) (m : List ℕ) → Replied b m
+unfolding reply
+replied b m = goValid (valid b) refl
+  where
+    goCode : (c : Bool) (message : Message) → valid b ≡ true → opened m ≡ Opened.Good message → eqb (word m codePlace) 0 ≡ c → Replied b m
+    goCode true message v o c = walked (rw (v, o, c, opened-size m o))
+    goCode false message v o c = untouched (rw (v, o, c)) (rw (v, o, c))
+
+    goOpened : (o : Opened) → valid b ≡ true → opened m ≡ o → Replied b m
+    goOpened (Opened.Refused n) v o = untouched (rw (v, o)) (rw (v, o))
+    goOpened (Opened.Good message) v o = goCode (eqb (word m codePlace) 0) message v o refl
+
+    goValid : (v : Bool) → valid b ≡ v → Replied b m
+    goValid true v = goOpened (opened m) v refl
+    goValid false v = untouched (rw v) (rw v)
+
+pub changes : Changes
+unfolding served
+changes b m i c u = go (replied b m)
+  where
+    go : Replied b m → getD (reply b m .bytes) i 0 ≡ getD m i 0
+    go (untouched e f) = rw e
+    go (walked e) = rw e (put-outside codePlace (le 4 (codeOf (trailOf m .ending .outcome))) (writeAll (trailOf m .tags) (saidOf b m) m) i 4 refl c ∙ writes-outside (trailOf m .tags) (saidOf b m) m i u)
+
+pub lengths : Lengths
+unfolding served
+lengths b m = go (replied b m)
+  where
+    go : Replied b m → length (reply b m .bytes) ≡ length m
+    go (untouched e f) = rw e
+    go (walked e) = rw e (length-put codePlace (le 4 (codeOf (trailOf m .ending .outcome))) (writeAll (trailOf m .tags) (saidOf b m) m) ∙ writes-length (trailOf m .tags) (saidOf b m) m)
+
+pub refusals : Refusals
+unfolding served
+refusals b m o = go (replied b m)
+  where
+    go : Replied b m → (reply b m .bytes ≡ m) × (reply b m .answer .board ≡ b)
+    go (untouched e f) = (e, f)
+    go (walked e) =
+        let k = ending-known m (word m 0) header in
+        let s : reply b m .answer .outcome ≡ trailOf m .ending .outcome = rw e in
+        absurd (⊎-elim (λ z. omega arith) (λ o₁. ⊎-elim (λ z. omega arith) (λ o₂. ⊎-elim (λ z. omega arith) (λ z. omega arith) o₂) o₁) o)
