@@ -1,7 +1,7 @@
 -- What a call changes of a message.
 use mathlib.Core.Bool.{Bool, true, false, cond}
 use mathlib.Core.List.{List, [], _∷_}
-use mathlib.Core.Logic.{_⊎_, inl, inr, ⊎-elim}
+use mathlib.Core.Logic.{_⊎_, inl, inr}
 use mathlib.Core.Path.{_≡_, refl, sym, ap, _∙_}
 use Prim.Native.Nat.{ℕ, zero, suc, _+_, _≤_, _<_, min}
 use native.Mathlib.Omega.{arith}
@@ -21,7 +21,7 @@ use Rattle.message.specs.declared.walk.Tag.{Tag}
 use Rattle.board.specs.Valid.{valid}
 use Rattle.board.specs.declared.record.Board.{Board}
 use Rattle.tags.specs.Reply.{answered}
-use Rattle.responder.proofs.Laws.Endings.{ending-known}
+use Rattle.responder.proofs.Laws.Endings.{Known, ending-known}
 use Rattle.responder.specs.Answers.{Said, silent, says, groupOf, answers}
 use Rattle.responder.specs.Reply.{written, writeAll, codeOf, coded, served, codedIf, openedIf, validIf, reply}
 use Rattle.responder.specs.Requests.{Trail, trail}
@@ -93,13 +93,29 @@ lengths b m = go (replied b m)
     go (untouched e f) = rw e
     go (walked e) = rw e (length-put codePlace (le 4 (codeOf (trailOf m .ending .outcome))) (writeAll (trailOf m .tags) (saidOf b m) m) ∙ writes-length (trailOf m .tags) (saidOf b m) m)
 
+-- no walk ends as a refusal does
+Refusal : ℕ → Type 0
+Refusal n = (n ≡ tooFewLent) ⊎ ((n ≡ badSize) ⊎ ((n ≡ notRequest) ⊎ (n ≡ invalidBoard)))
+
+apart : (n x : ℕ) → n ≡ x → (x ≡ tooFewLent → ⊥) → (x ≡ badSize → ⊥) → (x ≡ notRequest → ⊥) → (x ≡ invalidBoard → ⊥) → Refusal n → ⊥
+unfolding Refusal
+apart n x e a b c d (inl z) = a (sym e ∙ z)
+apart n x e a b c d (inr (inl z)) = b (sym e ∙ z)
+apart n x e a b c d (inr (inr (inl z))) = c (sym e ∙ z)
+apart n x e a b c d (inr (inr (inr z))) = d (sym e ∙ z)
+
+clash : (n : ℕ) → Known n → Refusal n → ⊥
+clash n (inl z) = apart n done z (λ e. omega arith) (λ e. omega arith) (λ e. omega arith) (λ e. omega arith)
+clash n (inr (inl z)) = apart n noEnd z (λ e. omega arith) (λ e. omega arith) (λ e. omega arith) (λ e. omega arith)
+clash n (inr (inr (inl z))) = apart n runsOver z (λ e. omega arith) (λ e. omega arith) (λ e. omega arith) (λ e. omega arith)
+clash n (inr (inr (inr z))) = apart n shortRequest z (λ e. omega arith) (λ e. omega arith) (λ e. omega arith) (λ e. omega arith)
+
 pub refusals : Refusals
-unfolding served
+unfolding served Refusal
 refusals b m o = go (replied b m)
   where
     go : Replied b m → (reply b m .bytes ≡ m) × (reply b m .answer .board ≡ b)
     go (untouched e f) = (e, f)
     go (walked e) =
-        let k = ending-known m (word m 0) header in
         let s : reply b m .answer .outcome ≡ trailOf m .ending .outcome = rw e in
-        absurd (⊎-elim (λ z. omega arith) (λ o₁. ⊎-elim (λ z. omega arith) (λ o₂. ⊎-elim (λ z. omega arith) (λ z. omega arith) o₂) o₁) o)
+        absurd (clash (trailOf m .ending .outcome) (ending-known m (word m 0) header) (rw s at o))
