@@ -1,3 +1,5 @@
 pub mod Tags
 pub mod Runs
 pub mod Lists
+pub mod Follows
+pub mod Rewritten
