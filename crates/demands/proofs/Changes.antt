@@ -25,6 +25,7 @@ use Rattle.responder.proofs.Laws.Endings.{Known, ending-known}
 use Rattle.responder.specs.Answers.{Said, silent, says, groupOf, answers}
 use Rattle.responder.specs.Reply.{written, writeAll, codeOf, coded, served, codedIf, openedIf, validIf, reply}
 use Rattle.responder.specs.Requests.{Trail, trail}
+use Rattle.demands.proofs.Laws.Replied.{Replied, untouched, walked, replied, Refusal, clash}
 use Rattle.demands.specs.Changes.{Outside, Unanswered, trailOf, saidOf, Changes, Lengths, Refusals}
 
 -- ---- writes
@@ -56,66 +57,28 @@ writes-length (t ∷ ts) (says answer ∷ ss) m =
     ∙ length-put (t .at + tagHeader) (take (t .size) answer) (put (t .at + wordPlace) (le 4 (0x8000_0000 + length answer)) m)
     ∙ length-put (t .at + wordPlace) (le 4 (0x8000_0000 + length answer)) m
 
--- ---- the cases of a reply: untouched, or served
-data Replied (b : Board) (m : List ℕ) : Type 0 where
-  untouched : reply b m .bytes ≡ m → reply b m .answer .board ≡ b → Replied b m
-  walked : reply b m ≡ served b m (word m 0) → Replied b m
-
-replied : (b : Board) (m : List ℕ) → Replied b m
-unfolding reply
-replied b m = goValid (valid b) refl
-  where
-    goCode : (c : Bool) (message : Message) → valid b ≡ true → opened m ≡ Opened.Good message → eqb (word m codePlace) 0 ≡ c → Replied b m
-    goCode true message v o c = walked (rw (v, o, c, opened-size m o))
-    goCode false message v o c = untouched (rw (v, o, c)) (rw (v, o, c))
-
-    goOpened : (o : Opened) → valid b ≡ true → opened m ≡ o → Replied b m
-    goOpened (Opened.Refused n) v o = untouched (rw (v, o)) (rw (v, o))
-    goOpened (Opened.Good message) v o = goCode (eqb (word m codePlace) 0) message v o refl
-
-    goValid : (v : Bool) → valid b ≡ v → Replied b m
-    goValid true v = goOpened (opened m) v refl
-    goValid false v = untouched (rw v) (rw v)
-
 pub changes : Changes
 unfolding served
 changes b m i c u = go (replied b m)
   where
     go : Replied b m → getD (reply b m .bytes) i 0 ≡ getD m i 0
-    go (untouched e f) = rw e
-    go (walked e) = rw e (put-outside codePlace (le 4 (codeOf (trailOf m .ending .outcome))) (writeAll (trailOf m .tags) (saidOf b m) m) i 4 refl c ∙ writes-outside (trailOf m .tags) (saidOf b m) m i u)
+    go (untouched o e f) = rw e
+    go (walked v g e) = rw e (put-outside codePlace (le 4 (codeOf (trailOf m .ending .outcome))) (writeAll (trailOf m .tags) (saidOf b m) m) i 4 refl c ∙ writes-outside (trailOf m .tags) (saidOf b m) m i u)
 
 pub lengths : Lengths
 unfolding served
 lengths b m = go (replied b m)
   where
     go : Replied b m → length (reply b m .bytes) ≡ length m
-    go (untouched e f) = rw e
-    go (walked e) = rw e (length-put codePlace (le 4 (codeOf (trailOf m .ending .outcome))) (writeAll (trailOf m .tags) (saidOf b m) m) ∙ writes-length (trailOf m .tags) (saidOf b m) m)
-
--- no walk ends as a refusal does
-Refusal : ℕ → Type 0
-Refusal n = (n ≡ tooFewLent) ⊎ ((n ≡ badSize) ⊎ ((n ≡ notRequest) ⊎ (n ≡ invalidBoard)))
-
-apart : (n x : ℕ) → n ≡ x → (x ≡ tooFewLent → ⊥) → (x ≡ badSize → ⊥) → (x ≡ notRequest → ⊥) → (x ≡ invalidBoard → ⊥) → Refusal n → ⊥
-unfolding Refusal
-apart n x e a b c d (inl z) = a (sym e ∙ z)
-apart n x e a b c d (inr (inl z)) = b (sym e ∙ z)
-apart n x e a b c d (inr (inr (inl z))) = c (sym e ∙ z)
-apart n x e a b c d (inr (inr (inr z))) = d (sym e ∙ z)
-
-clash : (n : ℕ) → Known n → Refusal n → ⊥
-clash n (inl z) = apart n done z (λ e. omega arith) (λ e. omega arith) (λ e. omega arith) (λ e. omega arith)
-clash n (inr (inl z)) = apart n noEnd z (λ e. omega arith) (λ e. omega arith) (λ e. omega arith) (λ e. omega arith)
-clash n (inr (inr (inl z))) = apart n runsOver z (λ e. omega arith) (λ e. omega arith) (λ e. omega arith) (λ e. omega arith)
-clash n (inr (inr (inr z))) = apart n shortRequest z (λ e. omega arith) (λ e. omega arith) (λ e. omega arith) (λ e. omega arith)
+    go (untouched o e f) = rw e
+    go (walked v g e) = rw e (length-put codePlace (le 4 (codeOf (trailOf m .ending .outcome))) (writeAll (trailOf m .tags) (saidOf b m) m) ∙ writes-length (trailOf m .tags) (saidOf b m) m)
 
 pub refusals : Refusals
-unfolding served Refusal
+unfolding served
 refusals b m o = go (replied b m)
   where
     go : Replied b m → (reply b m .bytes ≡ m) × (reply b m .answer .board ≡ b)
-    go (untouched e f) = (e, f)
-    go (walked e) =
+    go (untouched n e f) = (e, f)
+    go (walked v g e) =
         let s : reply b m .answer .outcome ≡ trailOf m .ending .outcome = rw e in
         absurd (clash (trailOf m .ending .outcome) (ending-known m (word m 0) header) (rw s at o))

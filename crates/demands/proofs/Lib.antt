@@ -4,3 +4,4 @@ pub mod Examples
 pub mod Kept
 pub mod Listing
 pub mod ListingMet
+pub mod Walked

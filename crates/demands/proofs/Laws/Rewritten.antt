@@ -133,13 +133,17 @@ unfolding tagAt
 follows-written m size p [] ss e h k l = h
 follows-written m size p (t ∷ ts) [] e h k l = h
 follows-written m size p (t ∷ ts) (silent ∷ ss) e h k l =
-    let f = found m size p (h .1) in
-    (h .0, reworded m size p t (h .0) silent ts ss e (h .1) (h .2) l (sym (ap (λ (x : Tag). x .word) (f .is))),
-    follows-written m size (h .0) ts ss e (rest₁ m size p t (h .0) silent ts ss e (h .1) (h .2) l) k l)
+    let f = found m size p (h .1) in (
+      h .0,
+      reworded m size p t (h .0) silent ts ss e (h .1) (h .2) l (sym (ap (λ (x : Tag). x .word) (f .is))),
+      follows-written m size (h .0) ts ss e (rest₁ m size p t (h .0) silent ts ss e (h .1) (h .2) l) k l,
+    )
 follows-written m size p (t ∷ ts) (says answer ∷ ss) e h k l =
     let f = found m size p (h .1) in
     let m₁ = answered (t .at) (t .size) answer m in
     let w : word m₁ (p + wordPlace) ≡ 0x8000_0000 + length answer = rw (← (f .at)) (answered-word (t .at) (t .size) answer m (k .0) (omega arith)) in
-    let n = answered-length (t .at) (t .size) answer m in
-    (h .0, reworded m size p t (h .0) (says answer) ts ss e (h .1) (h .2) l w,
-    follows-written m₁ size (h .0) ts ss e (rest₁ m size p t (h .0) (says answer) ts ss e (h .1) (h .2) l) (k .1) (omega arith))
+    let n = answered-length (t .at) (t .size) answer m in (
+      h .0,
+      reworded m size p t (h .0) (says answer) ts ss e (h .1) (h .2) l w,
+      follows-written m₁ size (h .0) ts ss e (rest₁ m size p t (h .0) (says answer) ts ss e (h .1) (h .2) l) (k .1) (omega arith),
+    )

@@ -1,0 +1,77 @@
+-- What is said is never long.
+use mathlib.Core.Bool.{Bool, true, false, cond, _&&_, and-eq-true-iff}
+use mathlib.Core.List.{List, [], _∷_}
+use mathlib.Core.Path.{_≡_, refl, sym, ap, _∙_}
+use Prim.Native.Nat.{ℕ, _^_, _≤_, _<_}
+use native.Mathlib.Omega.{arith}
+use borrow.Author.Tests.{leb-true}
+use lib.Dec.{leb, ltb}
+use lib.ListN.{length, take, length-take}
+use Rattle.board.proofs.Laws.Valid.{Parts, valid-parts}
+use Rattle.board.specs.Valid.{valid, validFacts}
+use Rattle.board.specs.declared.facts.Facts.{Facts}
+use Rattle.board.specs.declared.record.Board.{Board}
+use Rattle.tags.specs.Answer.{answerBytes}
+use Rattle.tags.specs.Outside.{outsideAnswer, outsideAfter}
+use Rattle.tags.specs.declared.answer.Answer.{Answer}
+use Rattle.tags.specs.declared.table.Kind.{Kind}
+use Rattle.display.specs.Decision.{groupAnswer}
+use Rattle.display.specs.declared.decision.Decision.{Decision}
+use Rattle.responder.specs.Answers.{Said, silent, says, first, second, saidBy, afterBy, answers}
+use Rattle.responder.specs.Requests.{Request, passed, short, asks}
+use Rattle.demands.proofs.Laws.Rewritten.{Short}
+
+answer-short : (f : Facts) (line : List ℕ) (a : Answer) → length (f .mac) ≡ 6 → f .characters ≤ 256 → length (answerBytes f line a) < 2 ^ 31
+unfolding answerBytes
+answer-short f line Answer.Nothing mac l = omega arith
+answer-short f line (Answer.Word n) mac l = omega arith
+answer-short f line (Answer.Pair a b) mac l = omega arith
+answer-short f line (Answer.Long n) mac l = omega arith
+answer-short f line Answer.Mac mac l = omega arith
+answer-short f line Answer.Line mac l = simp length-take (omega arith)
+
+abbrev ShortSaid : Said → Type 0
+ShortSaid silent = Unit {0}
+ShortSaid (says answer) = length answer < 2 ^ 31
+
+said-short : (g : Decision) (b : Board) (r : Request) → length (b .facts .mac) ≡ 6 → b .facts .characters ≤ 256 → ShortSaid (saidBy g b r)
+unfolding saidBy
+said-short g b passed mac l = tt
+said-short g b short mac l = tt
+said-short g b (asks (Kind.Frame t) bytes) mac l = go (g .answered)
+  where
+    go : (c : Bool) → ShortSaid (cond c (says (answerBytes (b .facts) (b .line) (groupAnswer g t))) silent)
+    go true = answer-short (b .facts) (b .line) (groupAnswer g t) mac l
+    go false = tt
+said-short g b (asks (Kind.Fact t) bytes) mac l = answer-short (b .facts) (b .line) (outsideAnswer (Kind.Fact t) (first bytes) (second bytes) b) mac l
+said-short g b (asks (Kind.Power t) bytes) mac l = answer-short (b .facts) (b .line) (outsideAnswer (Kind.Power t) (first bytes) (second bytes) b) mac l
+said-short g b (asks (Kind.Clock t) bytes) mac l = answer-short (b .facts) (b .line) (outsideAnswer (Kind.Clock t) (first bytes) (second bytes) b) mac l
+said-short g b (asks (Kind.Voltage t) bytes) mac l = answer-short (b .facts) (b .line) (outsideAnswer (Kind.Voltage t) (first bytes) (second bytes) b) mac l
+said-short g b (asks (Kind.Temperature t) bytes) mac l = answer-short (b .facts) (b .line) (outsideAnswer (Kind.Temperature t) (first bytes) (second bytes) b) mac l
+
+-- the facts never change
+after-facts : (b : Board) (r : Request) → afterBy b r .facts ≡ b .facts
+unfolding afterBy outsideAfter
+after-facts b passed = refl
+after-facts b short = refl
+after-facts b (asks (Kind.Frame t) bytes) = refl
+after-facts b (asks (Kind.Fact t) bytes) = refl
+after-facts b (asks (Kind.Power t) bytes) = refl
+after-facts b (asks (Kind.Clock t) bytes) = refl
+after-facts b (asks (Kind.Voltage t) bytes) = refl
+after-facts b (asks (Kind.Temperature t) bytes) = refl
+
+join : (s : Said) (ss : List Said) → ShortSaid s → Short ss → Short (s ∷ ss)
+join silent ss a h = h
+join (says answer) ss a h = (a, h)
+
+pub saids-short : (g : Decision) (b : Board) (rs : List Request) → length (b .facts .mac) ≡ 6 → b .facts .characters ≤ 256 → Short (answers g b rs)
+saids-short g b [] mac l = tt
+saids-short g b (r ∷ rs) mac l =
+    let f = after-facts b r in
+    join (saidBy g b r) (answers g (afterBy b r) rs) (said-short g b r mac l)
+    (saids-short g (afterBy b r) rs (ap (λ (x : Facts). length (x .mac)) f ∙ mac) (rw f l))
+
+pub few-characters : (b : Board) → valid b ≡ true → b .facts .characters ≤ 256
+unfolding validFacts
+few-characters b v = leb-true _ _ (and-eq-true-iff (leb (b .facts .characters) 256) (ltb (b .facts .dma) (2 ^ 16)) .0 (valid-parts b v .facts) .0)

@@ -1,0 +1,86 @@
+-- The walk of a reply.
+use mathlib.Core.Bool.{Bool, true, false, cond}
+use mathlib.Core.List.{List, [], _∷_}
+use mathlib.Core.Path.{_≡_, refl, sym, ap, _∙_, subst}
+use Prim.Native.Nat.{ℕ, _+_, _^_, _≤_, _<_}
+use native.Mathlib.Omega.{arith}
+use borrow.Author.Tests.{leb-true, ltb-true}
+use lib.Dec.{leb, ltb}
+use lib.ListN.{length, take, drop, length-take}
+use Rattle.words.proofs.Laws.Agree.{number-before, take-earlier}
+use Rattle.words.proofs.Laws.Put.{take-put, drop-put}
+use Rattle.words.specs.Numbers.{le, word}
+use Rattle.words.specs.Put.{put}
+use Rattle.message.proofs.Laws.Opening.{GoodSize}
+use Rattle.message.specs.Sizes.{header, codePlace}
+use Rattle.message.specs.Walk.{Walk, walkFrom}
+use Rattle.message.specs.declared.walk.Ending.{Ending}
+use Rattle.message.specs.declared.walk.Tag.{Tag}
+use Rattle.board.proofs.Laws.Valid.{Parts, valid-parts}
+use Rattle.board.specs.Valid.{valid, validFacts}
+use Rattle.board.specs.declared.facts.Facts.{Facts}
+use Rattle.board.specs.declared.record.Board.{Board}
+use Rattle.responder.specs.Answers.{Said, silent, says, groupOf, saidBy, afterBy, answers}
+use Rattle.responder.specs.Reply.{written, writeAll, codeOf, served, reply}
+use Rattle.responder.specs.Requests.{Request, passed, short, asks, requestOf, Trail, cutBy, cut, trail}
+use Rattle.display.specs.declared.decision.Decision.{Decision}
+use Rattle.demands.proofs.Laws.Follows.{Follows, follows, follows-walk, follows-same}
+use Rattle.demands.proofs.Laws.Replied.{Replied, untouched, walked, replied, clash}
+use Rattle.demands.proofs.Laws.Rewritten.{Short, writes-before, follows-written}
+use Rattle.demands.proofs.Laws.Saids.{saids-short, few-characters}
+use Rattle.demands.specs.Changes.{trailOf, saidOf}
+use Rattle.demands.specs.Walked.{tagsAfter, walkOf, Walked}
+
+-- the tags behind a cut say nothing
+cut-writes : (g : Decision) (b : Board) (m : List ℕ) (ts : List Tag) (e : Ending) (x : List ℕ)
+    → writeAll (cut m ts e .tags) (answers g b (cut m ts e .requests)) x ≡ writeAll ts (answers g b (cut m ts e .requests)) x
+cut-writes g b m [] e x = refl
+cut-writes g b m (t ∷ ts) e x = go (requestOf m t) (λ (r : Request). cut-writes g (afterBy b r) m ts e (written t (saidBy g b r) x))
+  where
+    go : (r : Request) → ((q : Request) → writeAll (cut m ts e .tags) (answers g (afterBy b q) (cut m ts e .requests)) (written t (saidBy g b q) x) ≡ writeAll ts (answers g (afterBy b q) (cut m ts e .requests)) (written t (saidBy g b q) x))
+        → writeAll (cutBy r t (cut m ts e) .tags) (answers g b (cutBy r t (cut m ts e) .requests)) x ≡ writeAll (t ∷ ts) (answers g b (cutBy r t (cut m ts e) .requests)) x
+    go passed h = h passed
+    go short h = refl
+    go (asks k bytes) h = h (asks k bytes)
+
+module _ (b : Board) (m : List ℕ) (six : length (b .facts .mac) ≡ 6) (v : valid b ≡ true) (g : GoodSize (word m 0) (length m)) where
+  -- what is written, and with the code word
+  abbrev filled : List ℕ
+  filled = writeAll (walkOf m .tags) (saidOf b m) m
+
+  abbrev code : List ℕ
+  code = le 4 (codeOf (trailOf m .ending .outcome))
+
+  abbrev whole : List ℕ
+  whole = put codePlace code filled
+
+  pub bytes-are : served b m (word m 0) .bytes ≡ whole
+  unfolding served trail
+  bytes-are =
+      ap (put codePlace code)
+      (cut-writes (groupOf (b .display) (trailOf m .ending) (trailOf m .requests)) b m (walkOf m .tags) (walkOf m .ending) m)
+
+  before : take header filled ≡ take header m
+  before = writes-before m (word m 0) header (walkOf m .tags) (saidOf b m) (walkOf m .ending) (follows m (word m 0) header)
+
+  pub size-same : word whole 0 ≡ word m 0
+  size-same =
+      number-before 4 0 codePlace whole filled (omega arith) (take-put codePlace codePlace code filled (omega arith)) ∙ number-before 4 0 header filled m (omega arith) before
+
+  pub follows-whole : Follows whole (word m 0) header (tagsAfter (walkOf m .tags) (saidOf b m)) (walkOf m .ending)
+  follows-whole =
+      follows-same filled whole (word m 0) header (tagsAfter (walkOf m .tags) (saidOf b m)) (walkOf m .ending) (sym (drop-put codePlace code filled header (omega arith)))
+      (follows-written m (word m 0) header (walkOf m .tags) (saidOf b m) (walkOf m .ending) (follows m (word m 0) header)
+      (saids-short (groupOf (b .display) (trailOf m .ending) (trailOf m .requests)) b (trailOf m .requests) six (few-characters b v)) (g .within))
+
+  pub walk-whole : walkOf whole ≡ record { tags = tagsAfter (walkOf m .tags) (saidOf b m); ending = walkOf m .ending }
+  walk-whole =
+      ap (λ (n : ℕ). walkFrom whole n header) size-same
+      ∙ follows-walk whole (word m 0) header (tagsAfter (walkOf m .tags) (saidOf b m)) (walkOf m .ending) follows-whole
+
+pub walked-is : Walked
+walked-is b m six w = go (replied b m)
+  where
+    go : Replied b m → walkOf (reply b m .bytes) ≡ record { tags = tagsAfter (walkOf m .tags) (saidOf b m); ending = walkOf m .ending }
+    go (untouched o e f) = absurd (clash (reply b m .answer .outcome) w o)
+    go (walked v g e) = rw (e, bytes-are b m six v g) (walk-whole b m six v g)
