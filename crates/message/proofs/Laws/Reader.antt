@@ -1,11 +1,11 @@
 -- The loop of the reader, and what it finds, case by case.
 use mathlib.Core.Bool.{Bool, true, false, cond}
 use mathlib.Core.List.{List, [], _∷_}
-use mathlib.Core.Path.{_≡_, refl, sym, ap, _∙_}
+use mathlib.Core.Path.{_≡_, refl, sym, ap, _∙_, subst}
 use Prim.Native.Nat.{ℕ, zero, suc, _+_, _-_, _%_, _≤_, _<_, min}
 use native.Mathlib.Numerals.{sub-one}
 use native.Mathlib.Omega.{arith}
-use borrow.Author.Tests.{eq-eqb, ne-eqb, lt-ltb, le-ltb, le-leb, lt-leb, eqb-true, eqb-false, ltb-false}
+use borrow.Author.Tests.{eq-eqb, ne-eqb, lt-ltb, le-ltb, le-leb, lt-leb, leb-true, eqb-false, ltb-false}
 use denote.Enum.Declared.{tagOf}
 use lib.Dec.{ltb, leb, eqb}
 use lib.ListN.{length}
@@ -16,11 +16,11 @@ use Rattle.message.proofs.Laws.Opening.{opened-walking}
 use Rattle.message.proofs.Laws.Steps.{Found, found as step-found, walking-on}
 use Rattle.message.proofs.Laws.Walks.{walk-tag, walk-stop}
 use Rattle.message.proofs.walk.Step
-use Rattle.message.specs.Opening.{opened}
-use Rattle.message.specs.Outcomes.{done, notResponse, noSuchTag, notAnswered, fewerStored}
+use Rattle.message.specs.Opening.{goodSize, opened}
+use Rattle.message.specs.Outcomes.{done, tooFewLent, badSize, notResponse, noSuchTag, notAnswered, fewerStored}
 use Rattle.message.specs.Reader.{isResponse, isAnswered, answerLength, stored, unread, unmet, judged, keptTag, withId, occurrenceOf, foundIn, foundIf, foundOf, found, View, view, partOf, shownPart, partIf, shownOr}
-use Rattle.message.specs.Sizes.{header, tagHeader, largest, codePlace}
-use Rattle.message.specs.Walk.{Walk, step, endingOf, stopped, more, walk, walkFrom, Walking}
+use Rattle.message.specs.Sizes.{header, tagHeader, smallest, largest, codePlace}
+use Rattle.message.specs.Walk.{Walk, tagAt, overruns, stepOf, step, endingOf, stopped, more, walk, walkFrom, Walking}
 use Rattle.message.specs.declared.opening.Message.{Message}
 use Rattle.message.specs.declared.opening.Opened.{Opened}
 use Rattle.message.specs.declared.opening.Opened.the-variants.{Good, Refused}
@@ -178,3 +178,187 @@ module _ (s : RefT (List ℕ)) (id n wanted : ℕ) {r : Reading} (e : r ≡ foun
 
     pub part-default : (r .outcome ≡ done → ⊥) → view default ≡ shownOr s (found (now s) id n wanted) default
     part-default d = ap (λ (b : Bool). partIf b (shownPart s r) (view default)) (sym (ne-eqb (r .outcome) done d)) ∙ ap (λ (x : Reading). shownOr s x default) e
+
+-- ---- which tag is found
+-- t is the tag of index n
+abbrev pub Nth : ℕ → List Tag → Tag → Type 0
+Nth n [] t = ⊥
+Nth zero (u ∷ us) t = u ≡ t
+Nth (suc n) (u ∷ us) t = Nth n us t
+
+-- there is one of index n, or there are fewer
+pub data Sought (n : ℕ) (ts : List Tag) : Type 0 where
+  present : (t : Tag) → Nth n ts t → Sought n ts
+  absent : length ts ≤ n → Sought n ts
+
+pub sought : (n : ℕ) (ts : List Tag) → Sought n ts
+sought n [] = absent (omega arith)
+sought zero (t ∷ ts) = present t refl
+sought (suc n) (t ∷ ts) = go (sought n ts)
+  where
+    go : Sought n ts → Sought (suc n) (t ∷ ts)
+    go (present u h) = present u h
+    go (absent l) = absent (omega arith)
+
+module _ (wanted : ℕ) (e : Ending) where
+  nth-judged : (n : ℕ) (ts : List Tag) (t : Tag) → Nth n ts t → occurrenceOf n wanted ts e ≡ judged t wanted
+  nth-judged n [] t h = absurd h
+  nth-judged zero (u ∷ us) t h = ap (λ (x : Tag). judged x wanted) h
+  nth-judged (suc n) (u ∷ us) t h = nth-judged n us t h
+
+  nth-unmet : (n : ℕ) (ts : List Tag) → length ts ≤ n → occurrenceOf n wanted ts e ≡ unmet e
+  nth-unmet n [] l = refl
+  nth-unmet zero (u ∷ us) l = absurd (omega arith)
+  nth-unmet (suc n) (u ∷ us) l = nth-unmet n us (omega arith)
+
+pub response-done : {code : ℕ} → code ≡ 0x8000_0000 → isResponse code ≡ true
+unfolding isResponse
+response-done {code} e = rw (eq-eqb code 0x8000_0000 e)
+
+pub response-fault : {code : ℕ} → code ≡ 0x8000_0001 → isResponse code ≡ true
+unfolding isResponse
+response-fault {code} e = rw (ne-eqb code 0x8000_0000 (λ z. omega arith), eq-eqb code 0x8000_0001 e)
+
+pub unmet-end : (e : Ending) → e .outcome ≡ done → unmet e ≡ unread noSuchTag 0
+unfolding unmet
+unmet-end e z = rw (eq-eqb (e .outcome) done z)
+
+pub unmet-fault : (e : Ending) → (e .outcome ≡ done → ⊥) → unmet e ≡ unread (e .outcome) (e .place)
+unfolding unmet
+unmet-fault e z = rw (ne-eqb (e .outcome) done z)
+
+module _ (m : List ℕ) {message : Message} (o : opened m ≡ Good message) where
+  pub found-not-response : isResponse (word m codePlace) ≡ false → (id n wanted : ℕ) → found m id n wanted ≡ unread notResponse 0
+  found-not-response c id n wanted = sym (read-good m id n wanted refl o (read-no-response m (message .size) id n wanted refl refl c refl))
+
+  module _ (c : isResponse (word m codePlace) ≡ true) where
+    -- of a response that is what the walk gives
+    pub found-response : (id n wanted : ℕ) → found m id n wanted ≡ foundIn id n wanted (walkFrom m (message .size) header)
+    found-response id n wanted = sym (read-good m id n wanted refl o (read-response m (message .size) id n wanted refl refl c refl))
+
+    -- the tag of this id and occurrence is judged
+    pub found-judged : (id n wanted : ℕ) (t : Tag) → Nth n (withId id (walkFrom m (message .size) header .tags)) t → found m id n wanted ≡ judged t wanted
+    found-judged id n wanted t h =
+        let w = walkFrom m (message .size) header in
+        found-response id n wanted ∙ nth-judged wanted (w .ending) n (withId id (w .tags)) t h
+
+    -- with fewer tags of this id it is the walk's fault, or 11
+    pub found-unmet : (id n wanted : ℕ) → length (withId id (walkFrom m (message .size) header .tags)) ≤ n → found m id n wanted ≡ unmet (walkFrom m (message .size) header .ending)
+    found-unmet id n wanted l =
+        let w = walkFrom m (message .size) header in
+        found-response id n wanted ∙ nth-unmet wanted (w .ending) n (withId id (w .tags)) l
+
+-- ---- what a reading that is no refusal has shown
+pub record Enough (t : Tag) (wanted : ℕ) : Type 0 where
+  pub answered : 0x8000_0000 ≤ t .word
+  pub holds : wanted ≤ stored t
+
+pub judged-enough : (t : Tag) (wanted : ℕ) → judged t wanted .outcome ≡ done → Enough t wanted
+unfolding judged
+judged-enough t wanted e = go (isAnswered t) (ltb (stored t) wanted) refl refl e
+  where
+    go : (a f : Bool) → isAnswered t ≡ a → ltb (stored t) wanted ≡ f
+        → cond a (cond f (unread fewerStored 0) (record { outcome = done; place = 0; length = answerLength t; value = t .at + tagHeader; count = wanted })) (unread notAnswered 0) .outcome ≡ done
+        → Enough t wanted
+    go false f ea ef q = absurd (omega arith)
+    go true true ea ef q = absurd (omega arith)
+    go true false ea ef q = record { answered = leb-true 0x8000_0000 (t .word) ea; holds = ltb-false (stored t) wanted ef }
+
+pub record Met (m : List ℕ) (id n wanted : ℕ) : Type 0 where
+  pub message : Message
+  pub opens : opened m ≡ Good message
+  pub response : isResponse (word m codePlace) ≡ true
+  pub tag : Tag
+  pub nth : Nth n (withId id (walkFrom m (message .size) header .tags)) tag
+  pub enough : Enough tag wanted
+
+unmet-refuses : (e : Ending) → unmet e .outcome ≡ done → ⊥
+unfolding unmet
+unmet-refuses e = go (eqb (e .outcome) done) refl
+  where
+    go : (b : Bool) → eqb (e .outcome) done ≡ b → cond b (unread noSuchTag 0) (unread (e .outcome) (e .place)) .outcome ≡ done → ⊥
+    go true eb q = omega arith
+    go false eb q = eqb-false (e .outcome) done eb q
+
+refused-refuses : (m : List ℕ) {k : ℕ} → opened m ≡ Refused k → k ≡ done → ⊥
+unfolding opened
+refused-refuses m {k} e z = go (ltb (length m) smallest) (goodSize (word m 0) (length m)) e
+  where
+    go : (few good : Bool) → cond few (Refused tooFewLent) (cond good (Good (record { size = word m 0 })) (Refused badSize)) ≡ Refused k → ⊥
+    go true good q = let y : tooFewLent ≡ k = cc in omega arith
+    go false false q = let y : badSize ≡ k = cc in omega arith
+    go false true q = let y : _≡_ {A = ℕ} 0 1 = cc in omega arith
+
+pub found-met : (m : List ℕ) (id n wanted : ℕ) → found m id n wanted .outcome ≡ done → Met m id n wanted
+found-met m id n wanted d = go (opened m) refl
+  where
+    tags : Message → List Tag
+    tags message = withId id (walkFrom m (message .size) header .tags)
+
+    seek : (message : Message) → opened m ≡ Good message → isResponse (word m codePlace) ≡ true → Sought n (tags message) → Met m id n wanted
+    seek message o c (present t h) =
+        record { message = message; opens = o; response = c; tag = t; nth = h; enough = judged-enough t wanted (sym (ap (λ (r : Reading). r .outcome) (found-judged m o c id n wanted t h)) ∙ d) }
+    seek message o c (absent l) =
+        absurd (unmet-refuses (walkFrom m (message .size) header .ending) (sym (ap (λ (r : Reading). r .outcome) (found-unmet m o c id n wanted l)) ∙ d))
+
+    answer : (message : Message) → opened m ≡ Good message → (b : Bool) → isResponse (word m codePlace) ≡ b → Met m id n wanted
+    answer message o true c = seek message o c (sought n (tags message))
+    answer message o false c = let z : notResponse ≡ done = sym (ap (λ (r : Reading). r .outcome) (found-not-response m o c id n wanted)) ∙ d in absurd (omega arith)
+
+    go : (o : Opened) → opened m ≡ o → Met m id n wanted
+    go (Refused k) e = absurd (refused-refuses m e (ap (λ (r : Reading). r .outcome) (read-refused m id n wanted refl e refl) ∙ d))
+    go (Good message) e = answer message e (isResponse (word m codePlace)) refl
+
+-- ---- no tag has the id 0
+tag-named : (m : List ℕ) (size p : ℕ) {t : Tag} {next : ℕ} → step m size p ≡ Step.Tag t next → t .id ≡ 0 → ⊥
+unfolding step tagAt
+tag-named m size p {t} {next} e z = go (eqb p size) (eqb (word m p) 0) (overruns m size p) refl e
+  where
+    go : (a b c : Bool) → eqb (word m p) 0 ≡ b → stepOf a b c (tagAt m p) ≡ Step.Tag t next → ⊥
+    go true b c eb q = let y : _≡_ {A = ℕ} 0 1 = cc in omega arith
+    go false true c eb q = let y : _≡_ {A = ℕ} 0 1 = cc in omega arith
+    go false false true eb q = let y : _≡_ {A = ℕ} 0 1 = cc in omega arith
+    go false false false eb q =
+        let is : tagAt m p ≡ t = cc in
+        eqb-false (word m p) 0 eb (ap (λ (x : Tag). x .id) is ∙ z)
+
+walk-named : (f : ℕ) (m : List ℕ) (size p : ℕ) (s : Step) → step m size p ≡ s → withId 0 (walk f m size s .tags) ≡ []
+walk-named zero m size p s e = refl
+walk-named (suc f) m size p Step.End e = refl
+walk-named (suc f) m size p (Step.Fault o q) e = refl
+walk-named (suc f) m size p (Step.Tag t q) e = rw (ne-eqb (t .id) 0 (tag-named m size p e)) (walk-named f m size q (step m size q) refl)
+
+-- asked for the id 0, the reader gives the walk's fault, or 11
+pub found-no-id : (m : List ℕ) {message : Message} (o : opened m ≡ Good message) → isResponse (word m codePlace) ≡ true → (n wanted : ℕ)
+    → found m 0 n wanted ≡ unmet (walkFrom m (message .size) header .ending)
+unfolding walkFrom
+found-no-id m {message} o c n wanted =
+    let z = walk-named (suc (message .size)) m (message .size) header (step m (message .size) header) refl in
+    found-unmet m o c 0 n wanted (rw z (omega arith))
+
+-- ---- two messages whose tags pair off in order
+pub data Paired (R : Tag → Tag → Type 0) : List Tag → List Tag → Type 0 where
+  none : Paired R [] []
+  both : {t u : Tag} {ts us : List Tag} → R t u → Paired R ts us → Paired R (t ∷ ts) (u ∷ us)
+
+module _ {R : Tag → Tag → Type 0} (same : (t u : Tag) → R t u → t .id ≡ u .id) where
+  -- the tags of one id pair off too
+  pub paired-with-id : (id : ℕ) {ts us : List Tag} → Paired R ts us → Paired R (withId id ts) (withId id us)
+  paired-with-id id none = none
+  paired-with-id id (both {t} {u} {ts} {us} r rs) =
+      subst (λ (k : ℕ). Paired R (keptTag (eqb (t .id) id) t (withId id ts)) (keptTag (eqb k id) u (withId id us))) (same t u r) (go (eqb (t .id) id) (paired-with-id id rs))
+    where
+      go : (b : Bool) → Paired R (withId id ts) (withId id us) → Paired R (keptTag b t (withId id ts)) (keptTag b u (withId id us))
+      go true ps = both r ps
+      go false ps = ps
+
+  -- what holds of each pair, judged, and of the two endings holds of what is found
+  pub paired-found : (S : Reading → Reading → Type 0) (id n wanted wanted′ : ℕ) (w w′ : Walk)
+      → ((t u : Tag) → R t u → S (judged t wanted) (judged u wanted′)) → S (unmet (w .ending)) (unmet (w′ .ending)) → Paired R (w .tags) (w′ .tags)
+      → S (foundIn id n wanted w) (foundIn id n wanted′ w′)
+  paired-found S id n wanted wanted′ w w′ each ends ps = go n (paired-with-id id ps)
+    where
+      go : (n : ℕ) {ts us : List Tag} → Paired R ts us → S (occurrenceOf n wanted ts (w .ending)) (occurrenceOf n wanted′ us (w′ .ending))
+      go n none = ends
+      go zero (both {t} {u} r rs) = each t u r
+      go (suc n) (both {t} {u} r rs) = go n rs
