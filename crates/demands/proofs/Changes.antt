@@ -47,7 +47,7 @@ writes-outside (t ∷ ts) (silent ∷ ss) m i u = writes-outside ts ss m i u
 writes-outside (t ∷ ts) (says answer ∷ ss) m i u =
     writes-outside ts ss (answered (t .at) (t .size) answer m) i (u .2) ∙ answered-outside (t .at) (t .size) answer m i (u .0) (u .1)
 
-writes-length : (ts : List Tag) (ss : List Said) (m : List ℕ) → length (writeAll ts ss m) ≡ length m
+pub writes-length : (ts : List Tag) (ss : List Said) (m : List ℕ) → length (writeAll ts ss m) ≡ length m
 unfolding answered
 writes-length [] ss m = refl
 writes-length (t ∷ ts) [] m = refl

@@ -5,3 +5,5 @@ pub mod Kept
 pub mod Listing
 pub mod ListingMet
 pub mod Walked
+pub mod ReadingBack
+pub mod Longer

@@ -45,13 +45,13 @@ cut-writes g b m (t ∷ ts) e x = go (requestOf m t) (λ (r : Request). cut-writ
 
 module _ (b : Board) (m : List ℕ) (six : length (b .facts .mac) ≡ 6) (v : valid b ≡ true) (g : GoodSize (word m 0) (length m)) where
   -- what is written, and with the code word
-  abbrev filled : List ℕ
+  abbrev pub filled : List ℕ
   filled = writeAll (walkOf m .tags) (saidOf b m) m
 
-  abbrev code : List ℕ
+  abbrev pub code : List ℕ
   code = le 4 (codeOf (trailOf m .ending .outcome))
 
-  abbrev whole : List ℕ
+  abbrev pub whole : List ℕ
   whole = put codePlace code filled
 
   pub bytes-are : served b m (word m 0) .bytes ≡ whole

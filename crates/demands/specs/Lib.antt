@@ -3,3 +3,5 @@ pub mod Examples
 pub mod Kept
 pub mod Changes
 pub mod Walked
+pub mod ReadingBack
+pub mod Longer

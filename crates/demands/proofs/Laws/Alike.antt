@@ -1,0 +1,128 @@
+-- Requests that are alike ask for the same.
+use mathlib.Core.Bool.{Bool, true, false, cond}
+use mathlib.Core.List.{List, [], _∷_, map}
+use mathlib.Core.Path.{_≡_, refl, sym, ap, _∙_, subst}
+use Prim.Native.Nat.{ℕ, zero, suc, _+_, _≤_, _<_}
+use native.Mathlib.Omega.{arith}
+use borrow.Author.Tests.{leb-false}
+use lib.Dec.{leb, ltb, eqb}
+use lib.ListN.{length, take, getD}
+use Rattle.message.proofs.Laws.Reader.{Paired, none, both}
+use Rattle.message.specs.Outcomes.{done, shortRequest}
+use Rattle.message.specs.Reader.{keptTag, withId}
+use Rattle.message.specs.declared.walk.Ending.{Ending}
+use Rattle.message.specs.declared.walk.Tag.{Tag}
+use Rattle.tags.specs.Table.{rowOf}
+use Rattle.tags.specs.declared.table.Kind.{Kind}
+use Rattle.tags.specs.declared.table.Row.{Row}
+use Rattle.responder.specs.Answers.{Said, silent, says}
+use Rattle.responder.specs.Requests.{Request, passed, short, asks, valueOf, isResponse, requestBytes, requestBy, requestOf, Trail, cutBy, cut}
+use Rattle.demands.specs.Longer.{SameRequest, Alike}
+use Rattle.demands.specs.ReadingBack.{noTag}
+use Rattle.demands.specs.Walked.{tagAfter, tagsAfter}
+
+-- ---- one pair
+request-pair : (m m′ : List ℕ) (t t′ : Tag) → t .id ≡ t′ .id → t .word ≡ t′ .word → SameRequest m m′ t t′ → (requestOf m t ≡ short → ⊥) → (requestOf m′ t′ ≡ short → ⊥) → requestOf m t ≡ requestOf m′ t′
+unfolding requestOf requestBy
+request-pair m m′ t t′ ei ew same n n′ =
+    rw (← ei, ← ew) (go (isResponse (t .word)) refl (rowOf (t .id)) refl n (rw (← ei, ← ew) at n′))
+  where
+    sized : (k : Kind) (c : ℕ) → rowOf (t .id) ≡ Row.Known k c → t .word < 0x8000_0000 → (x y : Bool) → (cond x short (asks k (requestBytes c (valueOf m t))) ≡ short → ⊥)
+        → (cond y short (asks k (requestBytes c (valueOf m′ t′))) ≡ short → ⊥) → cond x short (asks k (requestBytes c (valueOf m t))) ≡ cond y short (asks k (requestBytes c (valueOf m′ t′)))
+    sized k c er w true y a b = absurd (a refl)
+    sized k c er w false true a b = absurd (b refl)
+    sized k c er w false false a b = ap (asks k) (same k c er w)
+
+    go : (r : Bool) → isResponse (t .word) ≡ r → (row : Row) → rowOf (t .id) ≡ row → (requestBy r row (t .size) (valueOf m t) ≡ short → ⊥) → (requestBy r row (t′ .size) (valueOf m′ t′) ≡ short → ⊥)
+        → requestBy r row (t .size) (valueOf m t) ≡ requestBy r row (t′ .size) (valueOf m′ t′)
+    go true e row er a b = refl
+    go false e Row.Unknown er a b = refl
+    go false e (Row.Known k c) er a b = sized k c er (leb-false _ _ e) (ltb (t .size) c) (ltb (t′ .size) c) a b
+
+-- ---- a trail without a fault has no short request
+module _ (m : List ℕ) (t : Tag) (rest : Trail) where
+  by-not-short : (r : Request) → cutBy r t rest .ending .outcome ≡ done → r ≡ short → ⊥
+  by-not-short passed e z = let q : _≡_ {A = ℕ} 0 1 = cc in omega arith
+  by-not-short short e z = omega arith
+  by-not-short (asks k bytes) e z = let q : _≡_ {A = ℕ} 0 1 = cc in omega arith
+
+  by-ending : (r : Request) → cutBy r t rest .ending .outcome ≡ done → rest .ending .outcome ≡ done
+  by-ending passed e = e
+  by-ending short e = absurd (omega arith)
+  by-ending (asks k bytes) e = e
+
+  by-requests : (r : Request) → (r ≡ short → ⊥) → cutBy r t rest .requests ≡ r ∷ rest .requests
+  by-requests passed n = refl
+  by-requests short n = absurd (n refl)
+  by-requests (asks k bytes) n = refl
+
+pub requests-same : (m m′ : List ℕ) (ts ts′ : List Tag) (e e′ : Ending) → Alike m m′ ts ts′ → cut m ts e .ending .outcome ≡ done → cut m′ ts′ e′ .ending .outcome ≡ done
+    → cut m ts e .requests ≡ cut m′ ts′ e′ .requests
+requests-same m m′ [] [] e e′ a d d′ = refl
+requests-same m m′ [] (t′ ∷ ts′) e e′ a d d′ = absurd a
+requests-same m m′ (t ∷ ts) [] e e′ a d d′ = absurd a
+requests-same m m′ (t ∷ ts) (t′ ∷ ts′) e e′ a d d′ =
+    let n = by-not-short m t (cut m ts e) (requestOf m t) d in
+    let n′ = by-not-short m′ t′ (cut m′ ts′ e′) (requestOf m′ t′) d′ in
+    let h = request-pair m m′ t t′ (a .0) (a .1) (a .3) n n′ in
+    let ih = requests-same m m′ ts ts′ e e′ (a .4) (by-ending m t (cut m ts e) (requestOf m t) d) (by-ending m′ t′ (cut m′ ts′ e′) (requestOf m′ t′) d′) in
+    by-requests m t (cut m ts e) (requestOf m t) n ∙ ap (λ (r : Request). r ∷ cut m ts e .requests) h ∙ ap (λ (rs : List Request). requestOf m′ t′ ∷ rs) ih ∙ sym (by-requests m′ t′ (cut m′ ts′ e′) (requestOf m′ t′) n′)
+
+-- the walk itself ends at an end word
+pub walk-done : (m : List ℕ) (ts : List Tag) (e : Ending) → cut m ts e .ending .outcome ≡ done → e .outcome ≡ done
+walk-done m [] e d = d
+walk-done m (t ∷ ts) e d = walk-done m ts e (by-ending m t (cut m ts e) (requestOf m t) d)
+
+-- ---- what pairs off
+pub record Pair (t u : Tag) : Type 0 where
+  pub id : t .id ≡ u .id
+  pub word : t .word ≡ u .word
+
+pub paired-after : (m m′ : List ℕ) (ts ts′ : List Tag) (ss : List Said) → Alike m m′ ts ts′ → Paired Pair (tagsAfter ts ss) (tagsAfter ts′ ss)
+paired-after m m′ [] [] ss a = none
+paired-after m m′ [] (t′ ∷ ts′) ss a = absurd a
+paired-after m m′ (t ∷ ts) [] ss a = absurd a
+paired-after m m′ (t ∷ ts) (t′ ∷ ts′) [] a = both (record { id = a .0; word = a .1 }) (untold m m′ ts ts′ (a .4))
+  where
+    untold : (m m′ : List ℕ) (us us′ : List Tag) → Alike m m′ us us′ → Paired Pair us us′
+    untold m m′ [] [] q = none
+    untold m m′ [] (u′ ∷ us′) q = absurd q
+    untold m m′ (u ∷ us) [] q = absurd q
+    untold m m′ (u ∷ us) (u′ ∷ us′) q = both (record { id = q .0; word = q .1 }) (untold m m′ us us′ (q .4))
+paired-after m m′ (t ∷ ts) (t′ ∷ ts′) (silent ∷ ss) a = both (record { id = a .0; word = a .1 }) (paired-after m m′ ts ts′ ss (a .4))
+paired-after m m′ (t ∷ ts) (t′ ∷ ts′) (says x ∷ ss) a = both (record { id = a .0; word = refl }) (paired-after m m′ ts ts′ ss (a .4))
+
+pub paired-words : {ts us : List Tag} → Paired Pair ts us → map (λ t. t .word) ts ≡ map (λ t. t .word) us
+paired-words none = refl
+paired-words (both {t} {u} {ts} {us} p ps) = ap (λ (n : ℕ). n ∷ map (λ t. t .word) ts) (p .word) ∙ ap (λ (ns : List ℕ). u .word ∷ ns) (paired-words ps)
+
+-- ---- the tags of an index
+pub record At (t t′ : Tag) : Type 0 where
+  pub id : t .id ≡ t′ .id
+  pub size : t .size ≤ t′ .size
+
+pub alike-at : (m m′ : List ℕ) (ts ts′ : List Tag) (i : ℕ) → Alike m m′ ts ts′ → At (getD ts i noTag) (getD ts′ i noTag)
+alike-at m m′ [] [] i a = record { id = refl; size = omega arith }
+alike-at m m′ [] (t′ ∷ ts′) i a = absurd a
+alike-at m m′ (t ∷ ts) [] i a = absurd a
+alike-at m m′ (t ∷ ts) (t′ ∷ ts′) zero a = record { id = a .0; size = a .2 }
+alike-at m m′ (t ∷ ts) (t′ ∷ ts′) (suc i) a = alike-at m m′ ts ts′ i (a .4)
+
+pub alike-length : (m m′ : List ℕ) (ts ts′ : List Tag) → Alike m m′ ts ts′ → length ts ≡ length ts′
+alike-length m m′ [] [] a = refl
+alike-length m m′ [] (t′ ∷ ts′) a = absurd a
+alike-length m m′ (t ∷ ts) [] a = absurd a
+alike-length m m′ (t ∷ ts) (t′ ∷ ts′) a = ap suc (alike-length m m′ ts ts′ (a .4))
+
+kept-length : (c : Bool) (t t′ : Tag) (ts ts′ : List Tag) → length ts ≡ length ts′ → length (keptTag c t ts) ≡ length (keptTag c t′ ts′)
+kept-length true t t′ ts ts′ e = ap suc e
+kept-length false t t′ ts ts′ e = e
+
+pub alike-occurrence : (m m′ : List ℕ) (ts ts′ : List Tag) (id i : ℕ) → Alike m m′ ts ts′ → length (withId id (take i ts)) ≡ length (withId id (take i ts′))
+alike-occurrence m m′ ts ts′ id zero a = refl
+alike-occurrence m m′ [] [] id (suc i) a = refl
+alike-occurrence m m′ [] (t′ ∷ ts′) id (suc i) a = absurd a
+alike-occurrence m m′ (t ∷ ts) [] id (suc i) a = absurd a
+alike-occurrence m m′ (t ∷ ts) (t′ ∷ ts′) id (suc i) a =
+    kept-length (eqb (t .id) id) t t′ (withId id (take i ts)) (withId id (take i ts′)) (alike-occurrence m m′ ts ts′ id i (a .4))
+    ∙ ap (λ (k : ℕ). length (keptTag (eqb k id) t′ (withId id (take i ts′)))) (a .0)

@@ -1,0 +1,118 @@
+-- The reader shows what the responder stored.
+use mathlib.Core.Bool.{Bool, true, false, cond}
+use mathlib.Core.List.{List, [], _∷_}
+use mathlib.Core.Path.{_≡_, refl, sym, ap, _∙_, subst}
+use Prim.Native.Nat.{ℕ, zero, suc, _+_, _^_, _≤_, _<_, min}
+use native.Mathlib.Omega.{arith}
+use lib.Dec.{eqb}
+use lib.ListN.{length, take, drop, getD}
+use Rattle.words.proofs.Laws.Agree.{drop-later}
+use Rattle.words.proofs.Laws.Put.{length-put, drop-put, number-put}
+use Rattle.words.specs.Numbers.{le, word}
+use Rattle.words.specs.Put.{put}
+use Rattle.message.proofs.Laws.Opening.{GoodSize, opened-good}
+use Rattle.message.proofs.Laws.Reader.{response-done, response-fault, found-response, found-judged, judged-not-answered}
+use Rattle.message.specs.Opening.{opened}
+use Rattle.message.specs.Outcomes.{done, notAnswered, fewerStored}
+use Rattle.message.specs.Reader.{isResponse, unread, withId, judged, foundIn, found}
+use Rattle.message.specs.Sizes.{header, tagHeader, codePlace}
+use Rattle.message.specs.Walk.{Walk, walkFrom}
+use Rattle.message.specs.declared.opening.Message.{Message}
+use Rattle.message.specs.declared.opening.Opened.{Opened}
+use Rattle.message.specs.declared.reader.Reading.{Reading}
+use Rattle.message.specs.declared.walk.Tag.{Tag}
+use Rattle.board.specs.Valid.{valid}
+use Rattle.board.specs.declared.record.Board.{Board}
+use Rattle.responder.specs.Answers.{Said, silent, says, groupOf, answers}
+use Rattle.responder.specs.Reply.{writeAll, codeOf, served, reply}
+use Rattle.demands.proofs.Changes.{writes-length}
+use Rattle.demands.proofs.Laws.Follows.{Follows, follows, follows-walk}
+use Rattle.demands.proofs.Laws.ReadBack.{nth-at, judged-shows, judged-lacks, value-written}
+use Rattle.demands.proofs.Laws.Replied.{Replied, untouched, walked, replied, clash}
+use Rattle.demands.proofs.Laws.Rewritten.{Short}
+use Rattle.demands.proofs.Laws.Saids.{saids-short, few-characters}
+use Rattle.demands.proofs.Walked.{filled, code, whole, bytes-are, size-same, follows-whole}
+use Rattle.demands.specs.Changes.{trailOf, saidOf}
+use Rattle.demands.specs.ReadingBack.{noTag, tagOf, occurrence, saidAt, readingOf, ReadsAnswer, Reads, ReadingBack}
+use Rattle.demands.specs.Walked.{tagAfter, tagsAfter, walkOf, Walks, Six}
+
+-- ---- each answer is short
+short-at : (ss : List Said) (i : ℕ) {answer : List ℕ} → Short ss → getD ss i silent ≡ says answer → length answer < 2 ^ 31
+short-at [] i h e = let z : _≡_ {A = ℕ} 0 1 = cc in absurd (omega arith)
+short-at (silent ∷ ss) zero h e = let z : _≡_ {A = ℕ} 0 1 = cc in absurd (omega arith)
+short-at (silent ∷ ss) (suc i) h e = short-at ss i h e
+short-at (says x ∷ ss) zero {answer} h e = let is : x ≡ answer = cc in rw is at (h .0)
+short-at (says x ∷ ss) (suc i) h e = short-at ss i (h .1) e
+
+-- ---- what the responder left, to the reader
+module _ (b : Board) (m : List ℕ) (six : Six b) (v : valid b ≡ true) (g : GoodSize (word m 0) (length m)) where
+  abbrev left : List ℕ
+  left = whole b m six v g
+
+  length-left : length left ≡ length m
+  length-left = length-put codePlace (code b m six v g) (filled b m six v g) ∙ writes-length (walkOf m .tags) (saidOf b m) m
+
+  pub opens : opened left ≡ Opened.Good (record { size = word m 0 })
+  opens =
+      let z = size-same b m six v g in
+      let n = length-left in
+      let good : GoodSize (word left 0) (length left) = rw (z, n) g in
+      opened-good left good ∙ ap (λ (x : ℕ). Opened.Good (record { size = x })) z
+
+  code-is : word left codePlace ≡ codeOf (trailOf m .ending .outcome)
+  code-is = go (eqb (trailOf m .ending .outcome) done)
+    where
+      n : length (filled b m six v g) ≡ length m
+      n = writes-length (walkOf m .tags) (saidOf b m) m
+
+      go : (c : Bool) → word (put codePlace (le 4 (cond c 0x8000_0000 0x8000_0001)) (filled b m six v g)) codePlace ≡ cond c 0x8000_0000 0x8000_0001
+      go true = let q = n in number-put 4 codePlace 0x8000_0000 (filled b m six v g) (omega arith) (omega arith)
+      go false = let q = n in number-put 4 codePlace 0x8000_0001 (filled b m six v g) (omega arith) (omega arith)
+
+  pub response : isResponse (word left codePlace) ≡ true
+  response = go (eqb (trailOf m .ending .outcome) done) code-is
+    where
+      go : (c : Bool) → word left codePlace ≡ cond c 0x8000_0000 0x8000_0001 → isResponse (word left codePlace) ≡ true
+      go true e = response-done e
+      go false e = response-fault e
+
+  walk-left : walkFrom left (word m 0) header ≡ record { tags = tagsAfter (walkOf m .tags) (saidOf b m); ending = walkOf m .ending }
+  walk-left = follows-walk left (word m 0) header (tagsAfter (walkOf m .tags) (saidOf b m)) (walkOf m .ending) (follows-whole b m six v g)
+
+  pub found-left : (id n wanted : ℕ) → found left id n wanted ≡ foundIn id n wanted (record { tags = tagsAfter (walkOf m .tags) (saidOf b m); ending = walkOf m .ending })
+  found-left id n wanted = found-response left opens response id n wanted ∙ ap (foundIn id n wanted) walk-left
+
+  judged-left : (i : ℕ) → i < length (walkOf m .tags) → (wanted : ℕ) → found left (tagOf m i .id) (occurrence m i) wanted ≡ judged (tagAfter (tagOf m i) (saidAt b m i)) wanted
+  judged-left i l wanted =
+      found-judged left opens response (tagOf m i .id) (occurrence m i) wanted (tagAfter (tagOf m i) (saidAt b m i))
+      (rw walk-left (nth-at (tagOf m i .id) (walkOf m .tags) (saidOf b m) i l refl))
+
+  saids : Short (saidOf b m)
+  saids = saids-short (groupOf (b .display) (trailOf m .ending) (trailOf m .requests)) b (trailOf m .requests) six (few-characters b v)
+
+  value-left : (i : ℕ) → i < length (walkOf m .tags) → {answer : List ℕ} → saidAt b m i ≡ says answer → (k : ℕ) → k ≤ min (length answer) (tagOf m i .size)
+      → take k (drop (tagOf m i .at + tagHeader) left) ≡ take k answer
+  value-left i l e k q =
+      ap (take k) (drop-later header (tagOf m i .at + tagHeader) left (filled b m six v g) (omega arith) (drop-put codePlace (code b m six v g) (filled b m six v g) header (omega arith)))
+      ∙ value-written m (word m 0) header (walkOf m .tags) (saidOf b m) (walkOf m .ending) (follows m (word m 0) header) (g .within) i l e k q
+
+  module _ (is : reply b m .bytes ≡ left) where
+    pub reads-left : Reads b m
+    reads-left = record {
+      answered = λ i l answer e. record {
+        shows = λ wanted q. ap (λ (x : List ℕ). found x (tagOf m i .id) (occurrence m i) wanted) is ∙ judged-left i l wanted ∙ ap (λ (s : Said). judged (tagAfter (tagOf m i) s) wanted) e
+            ∙ judged-shows (tagOf m i) answer (short-at (saidOf b m) i saids e) wanted q;
+        bytes = λ wanted q. ap (λ (x : List ℕ). take wanted (drop (tagOf m i .at + tagHeader) x)) is ∙ value-left i l e wanted q;
+        fewer = λ wanted q. ap (λ (x : List ℕ). found x (tagOf m i .id) (occurrence m i) wanted) is ∙ judged-left i l wanted ∙ ap (λ (s : Said). judged (tagAfter (tagOf m i) s) wanted) e
+            ∙ judged-lacks (tagOf m i) answer (short-at (saidOf b m) i saids e) wanted q;
+      };
+      passed = λ i l e w wanted. ap (λ (x : List ℕ). found x (tagOf m i .id) (occurrence m i) wanted) is ∙ judged-left i l wanted ∙ ap (λ (s : Said). judged (tagAfter (tagOf m i) s) wanted) e
+          ∙ sym (judged-not-answered (tagOf m i) wanted w refl);
+    }
+
+pub reads : ReadingBack
+reads b m six w = go (replied b m)
+  where
+    go : Replied b m → Reads b m
+    go (untouched o e f) = absurd (clash (reply b m .answer .outcome) w o)
+    go (walked v g e) = reads-left b m six v g (ap (λ (r : _). r .bytes) e ∙ bytes-are b m six v g)
