@@ -167,3 +167,38 @@ pub fn part_or<'a>(bytes: &'a [u8], id: u32, occurrence: usize, wanted: usize, d
     }
     default
 }
+
+// A message that is kept, to be asked many times.
+pub struct Reader<'a> {
+    pub bytes: &'a [u8],
+}
+
+impl<'a> Reader<'a> {
+    // Keeps the message. Nothing is checked.
+    pub fn open(bytes: &'a [u8]) -> Reader<'a>
+        ensures { λ r. ⌜ r .bytes ≡ bytes .entry ⌝ }
+    {
+        Reader { bytes }
+    }
+
+    // `read` of the message.
+    pub fn read(self, id: u32, occurrence: usize, wanted: usize) -> Reading
+        ensures { λ r. ⌜ r ≡ found (now (self .entry .bytes)) id occurrence wanted ⌝ }
+    {
+        read(self.bytes, id, occurrence, wanted)
+    }
+
+    // `part` of the message.
+    pub fn part(self, id: u32, occurrence: usize, wanted: usize) -> &'a [u8]
+        ensures { λ r. ⌜ view r ≡ shownPart (self .entry .bytes) (found (now (self .entry .bytes)) id occurrence wanted) ⌝ }
+    {
+        part(self.bytes, id, occurrence, wanted)
+    }
+}
+
+// Keeps the message for one question.
+pub fn ask(bytes: &[u8], id: u32, occurrence: usize, wanted: usize) -> Reading
+    ensures { λ r. ⌜ r ≡ found (now (bytes .entry)) id occurrence wanted ⌝ }
+{
+    Reader::open(bytes).read(id, occurrence, wanted)
+}
