@@ -16,7 +16,7 @@ ghost use Rattle.message.specs.Sizes.{header, largest, codePlace};
 ghost use Rattle.message.specs.Walk.{Walking, walkFrom};
 ghost use Rattle.message.specs.Reader.{isResponse, stored, unread, unmet, judged, foundIn, foundIf, found, view, partOf, shownPart, shownOr};
 
-// Bit 31 of a code word or a tag word.
+// Bit 31 of a tag word: set where the tag is answered.
 const ANSWERED: u32 = 0x8000_0000;
 
 // What the reader says of a tag's answer: its length, and where the wanted bytes of it stand. A
@@ -56,11 +56,7 @@ fn stored_of(tag: Tag) -> u32
     ensures { λ r. ⌜ r ≡ stored tag ⌝ }
 {
     let length = tag.word % ANSWERED;
-    if length <= tag.size {
-        length
-    } else {
-        tag.size
-    }
+    if length <= tag.size { length } else { tag.size }
 }
 
 // The first `wanted` bytes of a tag's answer.
@@ -158,7 +154,13 @@ pub fn part(bytes: &[u8], id: u32, occurrence: usize, wanted: usize) -> &[u8]
 }
 
 // The wanted bytes as a part of the message, or on any refusal the whole default.
-pub fn part_or<'a>(bytes: &'a [u8], id: u32, occurrence: usize, wanted: usize, default: &'a [u8]) -> &'a [u8]
+pub fn part_or<'a>(
+    bytes: &'a [u8],
+    id: u32,
+    occurrence: usize,
+    wanted: usize,
+    default: &'a [u8],
+) -> &'a [u8]
     ensures { λ r. ⌜ view r ≡ shownOr (bytes .entry) (found (now (bytes .entry)) id occurrence wanted) (default .entry) ⌝ }
 {
     let reading = read(bytes, id, occurrence, wanted);
@@ -196,7 +198,7 @@ impl<'a> Reader<'a> {
     }
 }
 
-// Keeps the message for one question.
+// `read` of a message that is kept for one question only.
 pub fn ask(bytes: &[u8], id: u32, occurrence: usize, wanted: usize) -> Reading
     ensures { λ r. ⌜ r ≡ found (now (bytes .entry)) id occurrence wanted ⌝ }
 {
