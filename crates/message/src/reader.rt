@@ -16,7 +16,7 @@ ghost use Rattle.message.specs.Sizes.{header, largest, codePlace};
 ghost use Rattle.message.specs.Walk.{Walking, walkFrom};
 ghost use Rattle.message.specs.Reader.{isResponse, stored, unread, unmet, judged, foundIn, foundIf, found, view, partOf, shownPart, shownOr};
 
-// Bit 31 of a code word or a tag word.
+// Bit 31 of a tag word: set where the tag is answered.
 const ANSWERED: u32 = 0x8000_0000;
 
 // What the reader says of a tag's answer: its length, and where the wanted bytes of it stand. A
@@ -56,11 +56,7 @@ fn stored_of(tag: Tag) -> u32
     ensures { λ r. ⌜ r ≡ stored tag ⌝ }
 {
     let length = tag.word % ANSWERED;
-    if length <= tag.size {
-        length
-    } else {
-        tag.size
-    }
+    if length <= tag.size { length } else { tag.size }
 }
 
 // The first `wanted` bytes of a tag's answer.
@@ -158,7 +154,13 @@ pub fn part(bytes: &[u8], id: u32, occurrence: usize, wanted: usize) -> &[u8]
 }
 
 // The wanted bytes as a part of the message, or on any refusal the whole default.
-pub fn part_or<'a>(bytes: &'a [u8], id: u32, occurrence: usize, wanted: usize, default: &'a [u8]) -> &'a [u8]
+pub fn part_or<'a>(
+    bytes: &'a [u8],
+    id: u32,
+    occurrence: usize,
+    wanted: usize,
+    default: &'a [u8],
+) -> &'a [u8]
     ensures { λ r. ⌜ view r ≡ shownOr (bytes .entry) (found (now (bytes .entry)) id occurrence wanted) (default .entry) ⌝ }
 {
     let reading = read(bytes, id, occurrence, wanted);
@@ -166,4 +168,39 @@ pub fn part_or<'a>(bytes: &'a [u8], id: u32, occurrence: usize, wanted: usize, d
         return cut(bytes, reading.value, reading.count);
     }
     default
+}
+
+// A message that is kept, to be asked many times.
+pub struct Reader<'a> {
+    pub bytes: &'a [u8],
+}
+
+impl<'a> Reader<'a> {
+    // Keeps the message. Nothing is checked.
+    pub fn open(bytes: &'a [u8]) -> Reader<'a>
+        ensures { λ r. ⌜ r .bytes ≡ bytes .entry ⌝ }
+    {
+        Reader { bytes }
+    }
+
+    // `read` of the message.
+    pub fn read(self, id: u32, occurrence: usize, wanted: usize) -> Reading
+        ensures { λ r. ⌜ r ≡ found (now (self .entry .bytes)) id occurrence wanted ⌝ }
+    {
+        read(self.bytes, id, occurrence, wanted)
+    }
+
+    // `part` of the message.
+    pub fn part(self, id: u32, occurrence: usize, wanted: usize) -> &'a [u8]
+        ensures { λ r. ⌜ view r ≡ shownPart (self .entry .bytes) (found (now (self .entry .bytes)) id occurrence wanted) ⌝ }
+    {
+        part(self.bytes, id, occurrence, wanted)
+    }
+}
+
+// `read` of a message that is kept for one question only.
+pub fn ask(bytes: &[u8], id: u32, occurrence: usize, wanted: usize) -> Reading
+    ensures { λ r. ⌜ r ≡ found (now (bytes .entry)) id occurrence wanted ⌝ }
+{
+    Reader::open(bytes).read(id, occurrence, wanted)
 }

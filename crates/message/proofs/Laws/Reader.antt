@@ -2,12 +2,12 @@
 use mathlib.Core.Bool.{Bool, true, false, cond}
 use mathlib.Core.List.{List, [], _∷_}
 use mathlib.Core.Path.{_≡_, refl, sym, ap, _∙_, subst}
-use Prim.Native.Nat.{ℕ, zero, suc, _+_, _-_, _%_, _≤_, _<_, min}
+use Prim.Native.Nat.{ℕ, zero, suc, _+_, _-_, _≤_, _<_}
 use native.Mathlib.Numerals.{sub-one}
 use native.Mathlib.Omega.{arith}
 use borrow.Author.Tests.{eq-eqb, ne-eqb, lt-ltb, le-ltb, le-leb, lt-leb, leb-true, eqb-false, ltb-false}
 use denote.Enum.Declared.{tagOf}
-use lib.Dec.{ltb, leb, eqb}
+use lib.Dec.{ltb, eqb}
 use lib.ListN.{length}
 use denote.Ref.{RefT, now}
 use types.Run.{OneOf}
@@ -20,7 +20,7 @@ use Rattle.message.specs.Opening.{goodSize, opened}
 use Rattle.message.specs.Outcomes.{done, tooFewLent, badSize, notResponse, noSuchTag, notAnswered, fewerStored}
 use Rattle.message.specs.Reader.{isResponse, isAnswered, answerLength, stored, unread, unmet, judged, keptTag, withId, occurrenceOf, foundIn, foundIf, foundOf, found, View, view, partOf, shownPart, partIf, shownOr}
 use Rattle.message.specs.Sizes.{header, tagHeader, smallest, largest, codePlace}
-use Rattle.message.specs.Walk.{Walk, tagAt, overruns, stepOf, step, endingOf, stopped, more, walk, walkFrom, Walking}
+use Rattle.message.specs.Walk.{Walk, tagAt, overruns, stepOf, step, endingOf, more, walk, walkFrom, Walking}
 use Rattle.message.specs.declared.opening.Message.{Message}
 use Rattle.message.specs.declared.opening.Opened.{Opened}
 use Rattle.message.specs.declared.opening.Opened.the-variants.{Good, Refused}

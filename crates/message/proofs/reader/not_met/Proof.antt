@@ -3,9 +3,6 @@ use Rattle.message.specs.Reader.{unmet}
 use borrow.Author.Needs.{needs}
 use Rattle.message.proofs.reader.not_met.Statement.{statement}
 use Rattle.message.proofs.reader.not_met.Tie as tie
-use Rattle.message.proofs.reader.not_met.Reads as reads
-use Rattle.message.proofs.reader.not_met.Lts as lts
-use Rattle.message.proofs.reader.refused.Reads as refused-reads
 
 refused-requires : tie.Need-refused-requires
 refused-requires c κs = search needs

@@ -2,10 +2,6 @@ use borrow.Author.Needs.{needs}
 use Rattle.message.proofs.Laws.Reader.{part-within, part-shown}
 use Rattle.message.proofs.reader.part.Statement.{statement}
 use Rattle.message.proofs.reader.part.Tie as tie
-use Rattle.message.proofs.reader.part.Reads as reads
-use Rattle.message.proofs.reader.part.Lts as lts
-use Rattle.message.proofs.reader.cut.Reads as cut-reads
-use Rattle.message.proofs.reader.read.Reads as read-reads
 
 read-requires : tie.Need-read-requires
 read-requires c κs = search needs

@@ -2,10 +2,6 @@ use borrow.Author.Needs.{needs}
 use Rattle.message.proofs.Laws.Reader.{part-within, part-done, part-default}
 use Rattle.message.proofs.reader.part_or.Statement.{statement}
 use Rattle.message.proofs.reader.part_or.Tie as tie
-use Rattle.message.proofs.reader.part_or.Reads as reads
-use Rattle.message.proofs.reader.part_or.Lts as lts
-use Rattle.message.proofs.reader.cut.Reads as cut-reads
-use Rattle.message.proofs.reader.read.Reads as read-reads
 
 read-requires : tie.Need-read-requires
 read-requires c κs = search needs

@@ -3,12 +3,6 @@ use Prim.Native.Nat.{_-_}
 use Rattle.message.proofs.Laws.Reader.{Seeking, seek-start, seek-less, seek-place, seek-other, seek-met, seek-more, seek-stop}
 use Rattle.message.proofs.reader.seek.Statement.{statement}
 use Rattle.message.proofs.reader.seek.Tie as tie
-use Rattle.message.proofs.reader.seek.Reads as reads
-use Rattle.message.proofs.reader.seek.Lts as lts
-use Rattle.message.proofs.reader.judge.Reads as judge-reads
-use Rattle.message.proofs.reader.not_met.Reads as not-met-reads
-use Rattle.message.proofs.walk.ended.Reads as ended-reads
-use Rattle.message.proofs.walk.step_at.Reads as step-at-reads
 
 abbrev Inv-loop : tie.InvT-loop
 Inv-loop bytes size id occurrence wanted left₀ p₀ left p = Seeking bytes size id occurrence wanted left p
