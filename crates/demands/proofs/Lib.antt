@@ -7,3 +7,4 @@ pub mod ListingMet
 pub mod Walked
 pub mod ReadingBack
 pub mod Longer
+pub mod LongerMet

@@ -13,7 +13,7 @@ use Rattle.message.proofs.Laws.Opening.{GoodSize}
 use Rattle.message.proofs.Laws.Reader.{Paired, paired-found, unmet-end}
 use Rattle.message.specs.Builder.{Call}
 use Rattle.message.specs.Outcomes.{done, noSuchTag, notAnswered, fewerStored}
-use Rattle.message.specs.Reader.{unread, unmet, isAnswered, answerLength, stored, judged, foundIn, found}
+use Rattle.message.specs.Reader.{unread, unmet, isAnswered, answerLength, stored, judged, withId, foundIn, found}
 use Rattle.message.specs.Sizes.{header, tagHeader}
 use Rattle.message.specs.Walk.{Walk}
 use Rattle.message.specs.declared.reader.Reading.{Reading}
@@ -55,24 +55,24 @@ faultless b m d = go (replied b m)
     }
 
 -- ---- refusals of paired tags
-record Alike-refused (r r′ : Reading) : Type 0 where
+record RefusedAlike (r r′ : Reading) : Type 0 where
   pub missing : r .outcome ≡ noSuchTag → r′ .outcome ≡ noSuchTag
   pub passed : r .outcome ≡ notAnswered → r′ .outcome ≡ notAnswered
 
-judged-alike : (t u : Tag) (wanted : ℕ) → Pair t u → Alike-refused (judged t wanted) (judged u wanted)
+judged-alike : (t u : Tag) (wanted : ℕ) → Pair t u → RefusedAlike (judged t wanted) (judged u wanted)
 unfolding judged
 judged-alike t u wanted p = go (isAnswered t) (isAnswered u) (ltb (stored t) wanted) (ap (leb 0x8000_0000) (p .word))
   where
     shown : Tag → Reading
     shown x = record { outcome = done; place = 0; length = answerLength x; value = x .at + tagHeader; count = wanted }
 
-    go : (a c f : Bool) → a ≡ c → Alike-refused (cond a (cond f (unread fewerStored 0) (shown t)) (unread notAnswered 0)) (cond c (cond (ltb (stored u) wanted) (unread fewerStored 0) (shown u)) (unread notAnswered 0))
+    go : (a c f : Bool) → a ≡ c → RefusedAlike (cond a (cond f (unread fewerStored 0) (shown t)) (unread notAnswered 0)) (cond c (cond (ltb (stored u) wanted) (unread fewerStored 0) (shown u)) (unread notAnswered 0))
     go true c true e = record { missing = λ z. absurd (omega arith); passed = λ z. absurd (omega arith) }
     go true c false e = record { missing = λ z. absurd (omega arith); passed = λ z. absurd (omega arith) }
     go false true f e = let q : _≡_ {A = ℕ} 0 1 = cc in absurd (omega arith)
     go false false f e = record { missing = λ z. absurd (omega arith); passed = λ z. refl }
 
-ends-alike : (e e′ : Ending) → e .outcome ≡ done → e′ .outcome ≡ done → Alike-refused (unmet e) (unmet e′)
+ends-alike : (e e′ : Ending) → e .outcome ≡ done → e′ .outcome ≡ done → RefusedAlike (unmet e) (unmet e′)
 ends-alike e e′ d d′ =
     rw (unmet-end e d, unmet-end e′ d′) (record { missing = λ z. refl; passed = λ z. absurd (omega arith) })
 
@@ -113,11 +113,11 @@ module _ (b : Board) (m m′ : List ℕ) (six : Six b) (d : reply b m .answer .o
   said-same : (i : ℕ) → saidAt b m i ≡ saidAt b m′ i
   said-same i = ap (λ (ss : List Said). getD ss i silent) saids
 
-  refused-alike : (id n wanted : ℕ) → Alike-refused (found (reply b m .bytes) id n wanted) (found (reply b m′ .bytes) id n wanted)
+  refused-alike : (id n wanted : ℕ) → RefusedAlike (found (reply b m .bytes) id n wanted) (found (reply b m′ .bytes) id n wanted)
   unfolding trail
   refused-alike id n wanted =
       rw (f .found-is six id n wanted, f′ .found-is six id n wanted)
-      (paired-found (λ t u p. p .id) Alike-refused id n wanted wanted
+      (paired-found (λ t u p. p .id) RefusedAlike id n wanted wanted
       (record { tags = tagsAfter (walkOf m .tags) (saidOf b m); ending = walkOf m .ending }) (record { tags = tagsAfter (walkOf m′ .tags) (saidOf b m′); ending = walkOf m′ .ending })
       (λ t u p. judged-alike t u wanted p)
       (ends-alike (walkOf m .ending) (walkOf m′ .ending) (walk-done m (walkOf m .tags) (walkOf m .ending) (f .ending)) (walk-done m′ (walkOf m′ .tags) (walkOf m′ .ending) (f′ .ending))) paired)
@@ -144,7 +144,7 @@ module _ (b : Board) (m m′ : List ℕ) (six : Six b) (d : reply b m .answer .o
     same-question : (wanted : ℕ) → found (reply b m′ .bytes) (tagOf m i .id) (occurrence m i) wanted ≡ readingOf b m′ i wanted
     same-question wanted =
         ap (λ (n : ℕ). found (reply b m′ .bytes) (tagOf m i .id) n wanted) (alike-occurrence m m′ (walkOf m .tags) (walkOf m′ .tags) (tagOf m i .id) i a)
-        ∙ ap (λ (x : ℕ). found (reply b m′ .bytes) x (length (Rattle.message.specs.Reader.withId x (take i (walkOf m′ .tags)))) wanted) (at .id)
+        ∙ ap (λ (x : ℕ). found (reply b m′ .bytes) x (length (withId x (take i (walkOf m′ .tags)))) wanted) (at .id)
 
     shown-same : (wanted : ℕ) → readingOf b m i wanted .outcome ≡ done → Shown b m m′ i wanted
     shown-same wanted z = go (ltb (min (length answer) (tagOf m i .size)) wanted) refl
@@ -157,7 +157,7 @@ module _ (b : Board) (m m′ : List ℕ) (six : Six b) (d : reply b m .answer .o
             let r′ = same-question wanted ∙ second .shows wanted (longer wanted n) in
             record {
               outcome = ap (λ (x : Reading). x .outcome) r′;
-              length = ap (λ (x : Reading). x .length) (r ∙ ap (λ (v : ℕ). record { outcome = done; place = 0; length = length answer; value = v; count = wanted }) refl) ∙ sym (ap (λ (x : Reading). x .length) r′);
+              length = ap (λ (x : Reading). x .length) r ∙ sym (ap (λ (x : Reading). x .length) r′);
               bytes = ap (λ (x : Reading). take wanted (drop (x .value) (reply b m .bytes))) r ∙ first .bytes wanted n ∙ sym (second .bytes wanted (longer wanted n)) ∙ sym (ap (λ (x : Reading). take wanted (drop (x .value) (reply b m′ .bytes))) r′);
             }
 
