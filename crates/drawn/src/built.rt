@@ -1,4 +1,5 @@
 // Requests that the builder makes.
+use crate::answered;
 use crate::print;
 use console::words_of;
 use message::builder;
@@ -34,6 +35,15 @@ pub fn largest() {
     print::finished(b"finished", builder::finish(&mut buffer, full.cursor));
     print::listed(b"tag 5459", list(&buffer, 5459));
     print::listed(b"tag 5460", list(&buffer, 5460));
+}
+
+// The same in 65,536 bytes, served.
+pub fn largest_served() {
+    let mut buffer = [0u8; 65536];
+    let first = builder::start(&buffer);
+    let full = add_many(&mut buffer, first, 5460);
+    builder::finish(&mut buffer, full.cursor);
+    answered::largest(&mut buffer);
 }
 
 // The cursor behind a tag whose value and request are one word.
