@@ -1,5 +1,7 @@
 // Requests that the builder makes.
+use crate::answered;
 use crate::print;
+use console::words_of;
 use message::builder;
 use message::builder::Built;
 use message::builder::Cursor;
@@ -35,6 +37,15 @@ pub fn largest() {
     print::listed(b"tag 5460", list(&buffer, 5460));
 }
 
+// The same in 65,536 bytes, served.
+pub fn largest_served() {
+    let mut buffer = [0u8; 65536];
+    let first = builder::start(&buffer);
+    let full = add_many(&mut buffer, first, 5460);
+    builder::finish(&mut buffer, full.cursor);
+    answered::largest(&mut buffer);
+}
+
 // The cursor behind a tag whose value and request are one word.
 fn add_word(buffer: &mut [u8], cursor: Cursor, id: u32, a: u32) -> Cursor {
     let mut request = [0u8; 4];
@@ -58,7 +69,7 @@ pub fn screen() {
     let shown = add_pair(&mut buffer, physical, 0x0004_8004, 640, 480);
     let depth = add_word(&mut buffer, shown, 0x0004_8005, 24);
     print::finished(b"640 x 480 x 24", builder::finish(&mut buffer, depth));
-    print::words_of(&buffer);
+    words_of(&buffer);
 }
 
 // A call with each cursor, id and value that the builder refuses, and its neighbours that it takes.
@@ -77,7 +88,7 @@ pub fn refusals() {
     finish_at(b"finish at 4", &mut buffer, 4);
     finish_at(b"finish at 48", &mut buffer, 48);
     finish_at(b"finish at 44", &mut buffer, 44);
-    print::words_of(&buffer);
+    words_of(&buffer);
 }
 
 fn add_at(name: &[u8], buffer: &mut [u8], at: usize, id: u32, size: u32) {

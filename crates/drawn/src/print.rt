@@ -1,23 +1,12 @@
 // A line for each answer.
-use libc::STDOUT_FILENO;
+use board::display::Display;
+use board::display::Size;
+use console::number;
+use console::text;
+use console::word;
 use message::builder::Built;
 use message::builder::Finished;
 use message::lister::Listed;
-use words::numbers::u32_at;
-
-pub fn text(words: &[u8]) {
-    io::write_all(STDOUT_FILENO, words);
-}
-
-fn number(name: &[u8], n: u64) {
-    text(name);
-    io::print_decimal(STDOUT_FILENO, n);
-}
-
-fn word(name: &[u8], n: u32) {
-    text(name);
-    io::print_hex(STDOUT_FILENO, n as u64, 8);
-}
 
 pub fn listed(name: &[u8], r: Listed) {
     text(name);
@@ -47,26 +36,31 @@ pub fn finished(name: &[u8], r: Finished) {
     text(b"\n");
 }
 
-fn word_at(bytes: &[u8], p: usize) {
-    if bytes.len() < p {
-        return;
-    }
-    if bytes.len() - p < 4 {
-        return;
-    }
-    word(b" ", u32_at(bytes, p));
+pub fn served(name: &[u8], outcome: u32, place: usize) {
+    text(name);
+    number(b": outcome ", outcome as u64);
+    number(b" place ", place as u64);
+    text(b"\n");
 }
 
-fn words_in(bytes: &[u8]) {
-    let mut p = 0;
-    while p < bytes.len() {
-        word_at(bytes, p);
-        p += 4;
-    }
+fn size(name: &[u8], size: Size) {
+    number(name, size.width as u64);
+    number(b" x ", size.height as u64);
 }
 
-// The words of a run of bytes, in one line.
-pub fn words_of(bytes: &[u8]) {
-    words_in(bytes);
+// The settings, and the buffer's base and size.
+pub fn display(d: Display) {
+    let settings = d.settings;
+    let offset = settings.offset;
+    let buffer = d.buffer;
+    size(b"physical ", settings.physical);
+    size(b" virtual ", settings.logical);
+    number(b" offset ", offset.x as u64);
+    number(b", ", offset.y as u64);
+    number(b" depth ", settings.depth as u64);
+    number(b" order ", settings.order as u64);
+    number(b" alpha ", settings.alpha as u64);
+    word(b" buffer ", buffer.base);
+    word(b" ", buffer.size);
     text(b"\n");
 }

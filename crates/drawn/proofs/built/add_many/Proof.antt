@@ -4,9 +4,6 @@ use Prim.Native.Nat.{_-_}
 use lib.ListN.{length}
 use Rattle.drawn.proofs.built.add_many.Statement.{statement}
 use Rattle.drawn.proofs.built.add_many.Tie as tie
-use Rattle.drawn.proofs.built.add_many.Reads as reads
-use Rattle.drawn.proofs.built.add_many.Lts as lts
-use Rattle.drawn.proofs.built.add_empty.Reads as add-empty-reads
 
 abbrev Inv-loop : tie.InvT-loop
 Inv-loop buffer₀ count last₀ i₀ buffer last i = length buffer ≡ length buffer₀

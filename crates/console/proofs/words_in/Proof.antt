@@ -1,11 +1,8 @@
 use borrow.Author.Needs.{needs}
 use Prim.Native.Nat.{_-_}
 use lib.ListN.{length}
-use Rattle.drawn.proofs.print.words_in.Statement.{statement}
-use Rattle.drawn.proofs.print.words_in.Tie as tie
-use Rattle.drawn.proofs.print.words_in.Reads as reads
-use Rattle.drawn.proofs.print.words_in.Lts as lts
-use Rattle.drawn.proofs.print.word_at.Reads as word-at-reads
+use Rattle.console.proofs.words_in.Statement.{statement}
+use Rattle.console.proofs.words_in.Tie as tie
 
 abbrev Inv-loop : tie.InvT-loop
 Inv-loop bytes p₀ p = Unit {0}

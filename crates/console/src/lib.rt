@@ -1,0 +1,43 @@
+// Text and numbers on standard output.
+use libc::STDOUT_FILENO;
+use words::numbers::u32_at;
+
+pub fn text(words: &[u8]) {
+    io::write_all(STDOUT_FILENO, words);
+}
+
+// A name and a number.
+pub fn number(name: &[u8], n: u64) {
+    text(name);
+    io::print_decimal(STDOUT_FILENO, n);
+}
+
+// A name and a word in hexadecimal.
+pub fn word(name: &[u8], n: u32) {
+    text(name);
+    io::print_hex(STDOUT_FILENO, n as u64, 8);
+}
+
+fn word_at(bytes: &[u8], p: usize) {
+    if bytes.len() < p {
+        return;
+    }
+    if bytes.len() - p < 4 {
+        return;
+    }
+    word(b" ", u32_at(bytes, p));
+}
+
+fn words_in(bytes: &[u8]) {
+    let mut p = 0;
+    while p < bytes.len() {
+        word_at(bytes, p);
+        p += 4;
+    }
+}
+
+// The words of a run of bytes, in one line.
+pub fn words_of(bytes: &[u8]) {
+    words_in(bytes);
+    text(b"\n");
+}

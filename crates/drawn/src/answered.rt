@@ -1,0 +1,51 @@
+// Messages that are served, and what they hold afterwards.
+use crate::print;
+use board::bench::bench_record;
+use board::record::Board;
+use console::words_of;
+use message::lister::list;
+use responder::respond::respond;
+use words::numbers::put_u32;
+
+// Serves the bytes, prints outcome, place, words and display, and gives the record afterwards.
+pub fn serve(name: &[u8], board: Board, bytes: &mut [u8]) -> Board {
+    let served = respond(board, bytes);
+    print::served(name, served.outcome, served.place);
+    words_of(bytes);
+    let after = served.board;
+    print::display(after.display);
+    after
+}
+
+// A message of no tags in 11 of its 12 bytes.
+pub fn eleven() {
+    let mut lent = [0u8; 11];
+    lent[0] = 12;
+    serve(b"lent 11", bench_record(), &mut lent);
+}
+
+// A message of no tags, on a record whose DMA mask has bit 16.
+pub fn invalid() {
+    let mut board = bench_record();
+    board.facts.dma = 0x1_0000;
+    let mut lent = [0u8; 12];
+    lent[0] = 12;
+    serve(b"record not valid", board, &mut lent);
+}
+
+// A message of no tags with this size word, in 65,540 bytes.
+pub fn long(name: &[u8], size: u32) {
+    let mut lent = [0u8; 65540];
+    put_u32(&mut lent, 0, size);
+    let served = respond(bench_record(), &mut lent);
+    print::served(name, served.outcome, served.place);
+}
+
+// The largest message, with its first and last tag.
+pub fn largest(bytes: &mut [u8]) {
+    let served = respond(bench_record(), bytes);
+    print::served(b"5460 tags served", served.outcome, served.place);
+    print::listed(b"tag 0", list(bytes, 0));
+    print::listed(b"tag 5459", list(bytes, 5459));
+    print::listed(b"tag 5460", list(bytes, 5460));
+}

@@ -1,0 +1,4 @@
+// A message file, served on the bench record.
+pub mod bytes;
+mod disk;
+pub mod serve;

@@ -1,0 +1,52 @@
+// Serving a file.
+use crate::bytes::is_rewritten;
+use crate::bytes::serve_bytes;
+use crate::disk::is_at_end;
+use crate::disk::write_back;
+use libc::STDOUT_FILENO;
+use message::opening::Message;
+
+fn print_line(n: u32) {
+    io::print_decimal(STDOUT_FILENO, n as u64);
+    if !io::write_all(STDOUT_FILENO, b"\n") {
+        os::fail(b"standard output");
+    }
+}
+
+// Serves the bytes that were read, writes them back where they can have changed, and prints the
+// outcome.
+fn answer(path: &[u8], bytes: &mut [u8]) {
+    let outcome = serve_bytes(bytes);
+    if is_rewritten(outcome) {
+        if !write_back(path, bytes) {
+            return;
+        }
+    }
+    print_line(outcome);
+}
+
+// Reads the file no further than shows that it is above the most bytes of a message.
+fn serve_open(path: &[u8], file: i32) {
+    let mut buffer = [0u8; Message::MAX + 1];
+    let n = io::read_full(file, &mut buffer);
+    if n <= Message::MAX {
+        if !is_at_end(file) {
+            os::fail(path);
+            return;
+        }
+    }
+    answer(path, &mut buffer[..n]);
+}
+
+// Serves a message file on the bench record, writes it back in place, and prints the outcome as a
+// line on standard output. A file that cannot be read or written is said on standard error, and
+// prints nothing.
+pub fn serve_file(path: &[u8]) {
+    let file = os::open_read(path);
+    if file < 0 {
+        os::fail(path);
+        return;
+    }
+    serve_open(path, file);
+    libc::close(file);
+}
