@@ -3,10 +3,6 @@ use Rattle.tags.proofs.Laws.Answers.{answered-is}
 use borrow.Author.Needs.{needs}
 use Rattle.tags.proofs.reply.put_pair.Statement.{statement}
 use Rattle.tags.proofs.reply.put_pair.Tie as tie
-use Rattle.tags.proofs.reply.put_pair.Reads as reads
-use Rattle.tags.proofs.reply.put_pair.Lts as lts
-use Rattle.tags.proofs.answer.store_pair.Reads as store-pair-reads
-use Rattle.words.proofs.numbers.put_u32.Reads as put-u32-reads
 
 add-put-u32 : tie.Need-add-put-u32
 add-put-u32 c = search needs
