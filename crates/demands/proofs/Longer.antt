@@ -173,4 +173,4 @@ module _ (b : Board) (m m′ : List ℕ) (six : Six b) (d : reply b m .answer .o
   }
 
 pub longer-is : Longer
-longer-is b m m′ six d d′ a = same b m m′ six d d′ a
+longer-is b m m′ p = same b m m′ (p .six) (p .faultless) (p .faultless′) (p .alike)

@@ -95,7 +95,7 @@ alike = (
 )
 
 pub met : Same bench short long
-met = longer-is bench short long six short-done long-done alike
+met = longer-is bench short long (record { six = six; faultless = short-done; faultless′ = long-done; alike = alike })
 
 pub read-back : Reads bench short
 read-back = reads bench short six (inl short-done)

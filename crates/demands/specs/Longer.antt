@@ -54,8 +54,16 @@ pub record Same (b : Board) (m m′ : List ℕ) : Type 0 where
   -- and likewise with 12
   pub passed : (id n wanted : ℕ) → found (reply b m .bytes) id n wanted .outcome ≡ notAnswered → found (reply b m′ .bytes) id n wanted .outcome ≡ notAnswered
 
+-- Two requests on one record
+pub record Pair (b : Board) (m m′ : List ℕ) : Type 0 where
+  -- a MAC address has six bytes
+  pub six : Six b
+  -- both are served with outcome 0, so that the record is valid and neither has a fault
+  pub faultless : reply b m .answer .outcome ≡ done
+  pub faultless′ : reply b m′ .answer .outcome ≡ done
+  -- their tags pair off in order, up to the end word
+  pub alike : Alike m m′ (walkOf m .tags) (walkOf m′ .tags)
+
 -- On any record, two faultless requests that are alike but for longer values in the second are served alike.
 abbrev pub Longer : Type 0
-Longer =
-    (b : Board) (m m′ : List ℕ) → Six b → reply b m .answer .outcome ≡ done → reply b m′ .answer .outcome ≡ done → Alike m m′ (walkOf m .tags) (walkOf m′ .tags)
-    → Same b m m′
+Longer = (b : Board) (m m′ : List ℕ) → Pair b m m′ → Same b m m′
