@@ -1,5 +1,6 @@
 pub mod Asks
 pub mod Said
+pub mod Sorts
 pub mod Trails
 pub mod Scanning
 pub mod Serving

@@ -9,14 +9,17 @@ use message::opening::Message;
 use message::outcome;
 use message::walk::Ending;
 use message::walk::Step;
+use message::walk::Tag;
 use message::walk::ended;
 use message::walk::step_at;
 use tags::table::FrameTag;
 ghost use mathlib.Core.Path.{_≡_};
+ghost use lib.ListN.{length};
 ghost use Rattle.message.specs.Sizes.{header};
 ghost use Rattle.message.specs.Walk.{Walking};
 ghost use Rattle.display.specs.Operation.{unasked};
-ghost use Rattle.responder.specs.Requests.{trail};
+ghost use Rattle.responder.specs.Ask.{askOf, InMessage};
+ghost use Rattle.responder.specs.Requests.{requestOf, trail};
 ghost use Rattle.responder.specs.Scan.{sortOf, seenOf};
 
 // How a message's walk ends, and what its group tags come to.
@@ -48,6 +51,20 @@ fn sort_of(ask: Ask) -> Sort
     }
 }
 
+// The sort of a tag. All ids of the group have the same upper half, and no request is longer than 8
+// bytes: most tags are passed by without a look at the table.
+fn sort_at(msg: &[u8], tag: Tag) -> Sort
+    requires { ⌜ InMessage (length (now msg)) tag ⌝ }
+    ensures { λ r. ⌜ r ≡ sortOf (askOf (requestOf (now (msg .entry)) tag)) ⌝ }
+{
+    if tag.size >= 8 {
+        if tag.id / 0x1_0000 != 4 {
+            return Sort::Other;
+        }
+    }
+    sort_of(ask_at(msg, tag))
+}
+
 // Scans a message of `size` bytes. No entry point: the message has been opened.
 pub fn scan(msg: &[u8], size: usize, settings: Settings) -> Seen
     requires { ⌜ Walking (now msg) size header ⌝ }
@@ -61,7 +78,7 @@ pub fn scan(msg: &[u8], size: usize, settings: Settings) -> Seen
             let ending = ended(st);
             return Seen { ending, operation };
         };
-        let sort = sort_of(ask_at(msg, tag));
+        let sort = sort_at(msg, tag);
         match sort {
             Sort::Short => {
                 let ending = Ending {

@@ -21,10 +21,9 @@ use Rattle.display.specs.declared.operation.Operation.{Operation}
 use Rattle.responder.proofs.Laws.Said.{sortBy, sort-is, short-is, note-group, note-other}
 use Rattle.responder.proofs.Laws.Trails.{trail-stop, trail-tag, cut-on, in-message}
 use Rattle.responder.specs.Answers.{noteBy, operation}
-use Rattle.responder.specs.Ask.{askOf, Named, InMessage}
+use Rattle.responder.specs.Ask.{askOf, InMessage}
 use Rattle.responder.specs.Requests.{Request, short, requestOf, Trail, goesOn, cutBy, trail}
 use Rattle.responder.specs.Scan.{sortOf, seenOf}
-use Rattle.responder.specs.declared.ask.Ask.{Ask}
 use Rattle.responder.specs.declared.scan.Seen.{Seen}
 use Rattle.responder.specs.declared.scan.Sort.{Sort}
 
@@ -50,9 +49,9 @@ module _ (m : List ℕ) (size : ℕ) (o₀ o : Operation) (p : ℕ) (h : Scannin
     pub scan-in : InMessage (length m) t
     scan-in = in-message m size p (h .walking) here
 
-    module _ {q : Ask} (nq : Named (askOf (requestOf m t)) q) {s : Sort} (e : s ≡ sortOf q) where
+    module _ {s : Sort} (e : s ≡ sortOf (askOf (requestOf m t))) where
       sort : s ≡ sortBy (requestOf m t)
-      sort = e ∙ ap sortOf (nq .is) ∙ sort-is (requestOf m t)
+      sort = e ∙ sort-is (requestOf m t)
 
       pub scan-short : {o₁ : Operation} → o₀ ≡ o₁ → s ≡ Sort.Short → record { ending = record { outcome = shortRequest; place = p }; operation = o } ≡ seenOf o₁ (trail m size header)
       scan-short e₁ k =

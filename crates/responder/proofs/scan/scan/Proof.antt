@@ -28,11 +28,8 @@ ended-requires c κs = search needs
 returns : tie.Need-returns Inv-loop μ-loop
 returns c = search scan-stop
 
-ask-at-requires : tie.Need-ask-at-requires Inv-loop μ-loop
-ask-at-requires c κs = search scan-in
-
-sort-of-requires : tie.Need-sort-of-requires Inv-loop μ-loop
-sort-of-requires c κs = search needs
+sort-at-requires : tie.Need-sort-at-requires Inv-loop μ-loop
+sort-at-requires c κs = search scan-in
 
 enum-told : tie.Need-enum-told Inv-loop μ-loop
 enum-told c = search needs
@@ -73,8 +70,7 @@ scan-spec =
     enum-known-st
     ended-requires
     returns
-    ask-at-requires
-    sort-of-requires
+    sort-at-requires
     enum-told
     returns-2
     enum-known-sort
