@@ -6,9 +6,15 @@ use console::words_of;
 use message::lister::list;
 use responder::respond::respond;
 use words::numbers::put_u32;
+ghost use mathlib.Core.Path.{_≡_};
+ghost use Rattle.board.specs.Bench.{bench};
+ghost use Rattle.responder.specs.Reply.{reply};
 
 // Serves the bytes, prints outcome, place, words and display, and gives the record afterwards.
-pub fn serve(name: &[u8], board: Board, bytes: &mut [u8]) -> Board {
+pub fn serve(name: &[u8], board: Board, bytes: &mut [u8]) -> Board
+    ensures { λ r. ⌜ now (bytes .exit) ≡ reply board (now (bytes .entry)) .bytes ⌝ }
+    ensures { λ r. ⌜ r ≡ reply board (now (bytes .entry)) .answer .board ⌝ }
+{
     let served = respond(board, bytes);
     print::served(name, served.outcome, served.place);
     words_of(bytes);
@@ -42,7 +48,9 @@ pub fn long(name: &[u8], size: u32) {
 }
 
 // The largest message, with its first and last tag.
-pub fn largest(bytes: &mut [u8]) {
+pub fn largest(bytes: &mut [u8])
+    ensures { λ _. ⌜ now (bytes .exit) ≡ reply bench (now (bytes .entry)) .bytes ⌝ }
+{
     let served = respond(bench_record(), bytes);
     print::served(b"5460 tags served", served.outcome, served.place);
     print::listed(b"tag 0", list(bytes, 0));

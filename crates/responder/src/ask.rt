@@ -96,7 +96,8 @@ fn ask_kind(kind: Kind, a: u32, x: u32) -> Ask
 }
 
 // The word at `at` of a request of `count` bytes whose value begins at `value`, 0 where it has none.
-fn word_of(msg: &[u8], value: usize, count: usize, at: usize) -> u32
+// No entry point: the request lies in the message.
+pub fn word_of(msg: &[u8], value: usize, count: usize, at: usize) -> u32
     requires { ⌜ RequestFits (length (now msg)) value count at ⌝ }
     ensures { λ r. ⌜ r ≡ word (take count (drop value (now (msg .entry)))) at ⌝ }
 {

@@ -1,6 +1,5 @@
 // A read-only walk ahead of the answers: how the message ends, and the operation of its group tags.
-use crate::ask::Ask;
-use crate::ask::ask_at;
+use crate::ask::word_of;
 use board::display::Settings;
 use display::operation::Operation;
 use display::operation::note;
@@ -13,12 +12,14 @@ use message::walk::Tag;
 use message::walk::ended;
 use message::walk::step_at;
 use tags::table::FrameTag;
+use tags::table::Outline;
+use tags::table::outline_of;
 ghost use mathlib.Core.Path.{_≡_};
 ghost use lib.ListN.{length};
 ghost use Rattle.message.specs.Sizes.{header};
 ghost use Rattle.message.specs.Walk.{Walking};
 ghost use Rattle.display.specs.Operation.{unasked};
-ghost use Rattle.responder.specs.Ask.{askOf, InMessage};
+ghost use Rattle.responder.specs.Ask.{InMessage};
 ghost use Rattle.responder.specs.Requests.{requestOf, trail};
 ghost use Rattle.responder.specs.Scan.{sortOf, seenOf};
 
@@ -28,41 +29,38 @@ pub struct Seen {
     pub operation: Operation,
 }
 
-// What an ask is to the scan.
+// What a tag is to the scan.
 pub enum Sort {
     Short,
     Group(FrameTag, u32, u32),
     Other,
 }
 
-fn sort_of(ask: Ask) -> Sort
-    ensures { λ r. ⌜ r ≡ sortOf ask ⌝ }
-{
-    match ask {
-        Ask::Short => Sort::Short,
-        Ask::Frame(tag, a, b) => Sort::Group(tag, a, b),
-        Ask::Pass => Sort::Other,
-        Ask::Fixed(_, _) => Sort::Other,
-        Ask::Fact(_) => Sort::Other,
-        Ask::Power(_, _, _, _) => Sort::Other,
-        Ask::Clock(_, _, _, _) => Sort::Other,
-        Ask::Voltage(_, _, _, _) => Sort::Other,
-        Ask::Temperature(_, _) => Sort::Other,
-    }
-}
-
-// The sort of a tag. All ids of the group have the same upper half, and no request is longer than 8
-// bytes: most tags are passed by without a look at the table.
 fn sort_at(msg: &[u8], tag: Tag) -> Sort
     requires { ⌜ InMessage (length (now msg)) tag ⌝ }
-    ensures { λ r. ⌜ r ≡ sortOf (askOf (requestOf (now (msg .entry)) tag)) ⌝ }
+    ensures { λ r. ⌜ r ≡ sortOf (requestOf (now (msg .entry)) tag) ⌝ }
 {
-    if tag.size >= 8 {
-        if tag.id / 0x1_0000 != 4 {
-            return Sort::Other;
+    if tag.word >= 0x8000_0000 {
+        return Sort::Other;
+    }
+    let outline = outline_of(tag.id);
+    match outline {
+        Outline::Other(count) => {
+            if (tag.size as usize) < count {
+                return Sort::Short;
+            }
+            Sort::Other
+        }
+        Outline::Frame(kind, count) => {
+            if (tag.size as usize) < count {
+                return Sort::Short;
+            }
+            let value = tag.at + Message::TAG;
+            let a = word_of(msg, value, count, 0);
+            let b = word_of(msg, value, count, 4);
+            Sort::Group(kind, a, b)
         }
     }
-    sort_of(ask_at(msg, tag))
 }
 
 // Scans a message of `size` bytes. No entry point: the message has been opened.

@@ -19,15 +19,11 @@ use Rattle.tags.specs.declared.table.ClockTag.{ClockTag}
 use Rattle.tags.specs.declared.table.Kind.{Kind}
 use Rattle.tags.specs.declared.table.PowerTag.{PowerTag}
 use Rattle.tags.specs.declared.table.VoltageTag.{VoltageTag}
-use Rattle.display.specs.Operation.{noted}
 use Rattle.display.specs.declared.decision.Decision.{Decision}
-use Rattle.display.specs.declared.operation.Operation.{Operation}
-use Rattle.responder.specs.Answers.{Said, silent, says, first, second, noteBy, saidBy, afterBy}
+use Rattle.responder.specs.Answers.{Said, silent, says, first, second, saidBy, afterBy}
 use Rattle.responder.specs.Ask.{powerAt, clockAt, voltageAt, kindAsk, askOf, saidOf, afterOf, pair}
 use Rattle.responder.specs.Requests.{Request, passed, short, asks}
-use Rattle.responder.specs.Scan.{sortOf}
 use Rattle.responder.specs.declared.ask.Ask.{Ask}
-use Rattle.responder.specs.declared.scan.Sort.{Sort}
 
 -- ---- what is said
 module _ (g : Decision) (b : Board) where
@@ -98,81 +94,26 @@ module _ (b : Board) where
   after-line (Ask.Temperature t a) = refl
   after-line (Ask.Frame t a x) = refl
 
--- ---- what the scan sees
-abbrev sorted : Sort → Operation → Operation
-sorted Sort.Short o = o
-sorted (Sort.Group t a b) o = noted t a b o
-sorted Sort.Other o = o
-
-sort-power : (t : PowerTag) (a x : ℕ) (p : Place) → sortOf (powerAt t a x p) ≡ Sort.Other
-unfolding sortOf
-sort-power t a x (Place.At i) = refl
-sort-power t a x Place.Unlisted = refl
-
-sort-clock : (t : ClockTag) (a x : ℕ) (p : Place) → sortOf (clockAt t a x p) ≡ Sort.Other
-unfolding sortOf
-sort-clock t a x (Place.At i) = refl
-sort-clock t a x Place.Unlisted = refl
-
-sort-voltage : (t : VoltageTag) (a x : ℕ) (p : Place) → sortOf (voltageAt t a x p) ≡ Sort.Other
-unfolding sortOf
-sort-voltage t a x (Place.At i) = refl
-sort-voltage t a x Place.Unlisted = refl
-
--- the sort of a request, seen from the request
-abbrev pub sortBy : Request → Sort
-sortBy passed = Sort.Other
-sortBy short = Sort.Short
-sortBy (asks (Kind.Frame t) bytes) = Sort.Group t (first bytes) (second bytes)
-sortBy (asks (Kind.Fact t) bytes) = Sort.Other
-sortBy (asks (Kind.Power t) bytes) = Sort.Other
-sortBy (asks (Kind.Clock t) bytes) = Sort.Other
-sortBy (asks (Kind.Voltage t) bytes) = Sort.Other
-sortBy (asks (Kind.Temperature t) bytes) = Sort.Other
-
-pub sort-is : (r : Request) → sortOf (askOf r) ≡ sortBy r
-unfolding sortOf askOf kindAsk
-sort-is passed = refl
-sort-is short = refl
-sort-is (asks (Kind.Fact t) bytes) = refl
-sort-is (asks (Kind.Power t) bytes) = sort-power t (first bytes) (second bytes) (devicePlace (first bytes))
-sort-is (asks (Kind.Clock t) bytes) = sort-clock t (first bytes) (second bytes) (clockPlace (first bytes))
-sort-is (asks (Kind.Voltage t) bytes) = sort-voltage t (first bytes) (second bytes) (voltagePlace (first bytes))
-sort-is (asks (Kind.Temperature t) bytes) = refl
-sort-is (asks (Kind.Frame t) bytes) = refl
-
--- only a short request is short to the scan
-pub short-is : (r : Request) → sortBy r ≡ Sort.Short → r ≡ short
-short-is passed e = cc
-short-is short e = refl
-short-is (asks (Kind.Frame t) bytes) e = cc
-short-is (asks (Kind.Fact t) bytes) e = cc
-short-is (asks (Kind.Power t) bytes) e = cc
-short-is (asks (Kind.Clock t) bytes) e = cc
-short-is (asks (Kind.Voltage t) bytes) e = cc
-short-is (asks (Kind.Temperature t) bytes) e = cc
-
-pub note-group : (r : Request) (o : Operation) {t : _} {a b : ℕ} → sortBy r ≡ Sort.Group t a b → noted t a b o ≡ noteBy r o
-note-group passed o e = cc
-note-group short o e = cc
-note-group (asks (Kind.Frame t) bytes) o e = cc
-note-group (asks (Kind.Fact t) bytes) o e = cc
-note-group (asks (Kind.Power t) bytes) o e = cc
-note-group (asks (Kind.Clock t) bytes) o e = cc
-note-group (asks (Kind.Voltage t) bytes) o e = cc
-note-group (asks (Kind.Temperature t) bytes) o e = cc
-
-pub note-other : (r : Request) (o : Operation) → sortBy r ≡ Sort.Other → o ≡ noteBy r o
-note-other passed o e = refl
-note-other short o e = refl
-note-other (asks (Kind.Frame t) bytes) o e = cc
-note-other (asks (Kind.Fact t) bytes) o e = refl
-note-other (asks (Kind.Power t) bytes) o e = refl
-note-other (asks (Kind.Clock t) bytes) o e = refl
-note-other (asks (Kind.Voltage t) bytes) o e = refl
-note-other (asks (Kind.Temperature t) bytes) o e = refl
-
 -- only a short request asks so
 pub short-asks : (r : Request) → askOf r ≡ Ask.Short → r ≡ short
-unfolding sortOf
-short-asks r e = short-is r (sym (sort-is r) ∙ ap sortOf e)
+unfolding askOf kindAsk
+short-asks passed e = cc
+short-asks short e = refl
+short-asks (asks (Kind.Fact t) bytes) e = cc
+short-asks (asks (Kind.Power t) bytes) e = go (devicePlace (first bytes)) e
+  where
+    go : (p : Place) → powerAt t (first bytes) (second bytes) p ≡ Ask.Short → asks (Kind.Power t) bytes ≡ short
+    go (Place.At i) q = cc
+    go Place.Unlisted q = cc
+short-asks (asks (Kind.Clock t) bytes) e = go (clockPlace (first bytes)) e
+  where
+    go : (p : Place) → clockAt t (first bytes) (second bytes) p ≡ Ask.Short → asks (Kind.Clock t) bytes ≡ short
+    go (Place.At i) q = cc
+    go Place.Unlisted q = cc
+short-asks (asks (Kind.Voltage t) bytes) e = go (voltagePlace (first bytes)) e
+  where
+    go : (p : Place) → voltageAt t (first bytes) (second bytes) p ≡ Ask.Short → asks (Kind.Voltage t) bytes ≡ short
+    go (Place.At i) q = cc
+    go Place.Unlisted q = cc
+short-asks (asks (Kind.Temperature t) bytes) e = cc
+short-asks (asks (Kind.Frame t) bytes) e = cc

@@ -18,10 +18,10 @@ use Rattle.board.specs.declared.display.Settings.{Settings}
 use Rattle.tags.specs.declared.table.FrameTag.{FrameTag}
 use Rattle.display.specs.Operation.{unasked, noted}
 use Rattle.display.specs.declared.operation.Operation.{Operation}
-use Rattle.responder.proofs.Laws.Said.{sortBy, sort-is, short-is, note-group, note-other}
+use Rattle.responder.proofs.Laws.Sorts.{short-is, note-group, note-other}
 use Rattle.responder.proofs.Laws.Trails.{trail-stop, trail-tag, cut-on, in-message}
 use Rattle.responder.specs.Answers.{noteBy, operation}
-use Rattle.responder.specs.Ask.{askOf, InMessage}
+use Rattle.responder.specs.Ask.{InMessage}
 use Rattle.responder.specs.Requests.{Request, short, requestOf, Trail, goesOn, cutBy, trail}
 use Rattle.responder.specs.Scan.{sortOf, seenOf}
 use Rattle.responder.specs.declared.scan.Seen.{Seen}
@@ -49,10 +49,7 @@ module _ (m : List ℕ) (size : ℕ) (o₀ o : Operation) (p : ℕ) (h : Scannin
     pub scan-in : InMessage (length m) t
     scan-in = in-message m size p (h .walking) here
 
-    module _ {s : Sort} (e : s ≡ sortOf (askOf (requestOf m t))) where
-      sort : s ≡ sortBy (requestOf m t)
-      sort = e ∙ sort-is (requestOf m t)
-
+    module _ {s : Sort} (sort : s ≡ sortOf (requestOf m t)) where
       pub scan-short : {o₁ : Operation} → o₀ ≡ o₁ → s ≡ Sort.Short → record { ending = record { outcome = shortRequest; place = p }; operation = o } ≡ seenOf o₁ (trail m size header)
       scan-short e₁ k =
           let f = here in
@@ -67,8 +64,8 @@ module _ (m : List ℕ) (size : ℕ) (o₀ o : Operation) (p : ℕ) (h : Scannin
 
       pub scan-group : {k : FrameTag} {a b : ℕ} → s ≡ Sort.Group k a b → {o′ : Operation} → o′ ≡ noted k a b o → Scanning m size o₀ o′ next
       scan-group {k} {a} {b} ek {o′} eo =
-          on (λ z. let q : Sort.Group k a b ≡ Sort.Short = sym ek ∙ sort ∙ ap sortBy z in let c : _≡_ {A = ℕ} 0 1 = cc in omega arith) o′ (eo ∙ note-group (requestOf m t) o (sym sort ∙ ek))
+          on (λ z. let q : Sort.Group k a b ≡ Sort.Short = sym ek ∙ sort ∙ ap sortOf z in let c : _≡_ {A = ℕ} 0 1 = cc in omega arith) o′ (eo ∙ note-group (requestOf m t) o (sym sort ∙ ek))
 
       pub scan-other : s ≡ Sort.Other → Scanning m size o₀ o next
       scan-other ek =
-          on (λ z. let q : Sort.Other ≡ Sort.Short = sym ek ∙ sort ∙ ap sortBy z in let c : _≡_ {A = ℕ} 0 1 = cc in omega arith) o (note-other (requestOf m t) o (sym sort ∙ ek))
+          on (λ z. let q : Sort.Other ≡ Sort.Short = sym ek ∙ sort ∙ ap sortOf z in let c : _≡_ {A = ℕ} 0 1 = cc in omega arith) o (note-other (requestOf m t) o (sym sort ∙ ek))
