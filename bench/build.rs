@@ -1,7 +1,0 @@
-// Links the static library that `rt staticlib timing` writes.
-fn main() {
-    let folder = concat!(env!("CARGO_MANIFEST_DIR"), "/../target/staticlib");
-    println!("cargo:rustc-link-search=native={folder}");
-    println!("cargo:rustc-link-lib=static=timing");
-    println!("cargo:rerun-if-changed={folder}/libtiming.a");
-}

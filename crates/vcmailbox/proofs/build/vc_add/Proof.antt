@@ -1,0 +1,16 @@
+use borrow.Author.Needs.{needs}
+use Rattle.vcmailbox.proofs.Laws.{add-given}
+use Rattle.vcmailbox.proofs.build.vc_add.Statement.{statement}
+use Rattle.vcmailbox.proofs.build.vc_add.Tie as tie
+
+add-requires : tie.Need-add-requires
+add-requires c κs = search needs
+
+same-length : tie.Need-same-length
+same-length c = search needs
+
+returns : tie.Need-returns
+returns c = search add-given
+
+pub vc-add-spec : {M : Type 1} → statement M
+vc-add-spec = tie.close (tie.spec add-requires same-length returns)

@@ -1,0 +1,171 @@
+/* The VideoCore property interface: requests and replies, and an emulated board that answers them.
+ *
+ * Link with libvcmailbox.a, which `./vc library` builds. Every function here is proved: it gives an
+ * outcome for any bytes, any numbers and any record, and reads and writes nothing but what it is lent.
+ * A pointer must be valid for the length that follows it, or for the one number or record it points to,
+ * and what is lent to be written must overlap nothing else that the same call is lent.
+ *
+ * A message is a run of little-endian words: its size in bytes, a code, tags, an end word 0, padding.
+ * A tag is its id, the size of its value in bytes, a tag word, and the value, padded to 4. */
+#ifndef VCMAILBOX_H
+#define VCMAILBOX_H
+
+#include <stdbool.h>
+#include <stddef.h>
+#include <stdint.h>
+
+#ifdef __cplusplus
+extern "C" {
+#endif
+
+/* Outcomes. Only VC_NO_END, VC_RUNS_OVER and VC_SHORT_REQUEST have a place other than 0. */
+enum {
+    VC_DONE = 0,
+    VC_TOO_FEW_LENT = 1,     /* fewer than 12 bytes were lent */
+    VC_BAD_SIZE = 2,         /* the size word is not 12 to 65,536, a multiple of 4, within what was lent */
+    VC_NOT_REQUEST = 3,      /* serving: the code word is not 0 */
+    VC_NO_END = 4,           /* the tags reach the size without an end word */
+    VC_RUNS_OVER = 5,        /* a tag runs over the size */
+    VC_SHORT_REQUEST = 6,    /* serving: a tag's value is shorter than its request */
+    VC_NO_ROOM = 7,          /* building: the buffer has no room for it */
+    VC_BAD_TAG = 8,          /* building: id 0, or a request longer than its value */
+    VC_BAD_CURSOR = 9,       /* building: no cursor that building gives */
+    VC_NOT_RESPONSE = 10,    /* reading: the code word is no response's */
+    VC_NO_SUCH_TAG = 11,     /* the message ends before such a tag */
+    VC_NOT_ANSWERED = 12,    /* reading: the tag was not answered */
+    VC_FEWER_STORED = 13,    /* reading: fewer bytes are stored than wanted */
+    VC_INVALID_BOARD = 14    /* serving: the board record is not valid */
+};
+
+/* ---- the client: building requests
+ *
+ * Start, add each tag, finish; each call takes the cursor that the last one gave. A call that is
+ * refused writes nothing: adding leaves the cursor as it was, start and finish give 0.
+ * The buffer must be aligned to 16 for a real mailbox; nothing here asks it. */
+
+uint32_t vc_start(const uint8_t *buffer, size_t length, size_t *cursor);
+
+/* A tag with a value of `size` bytes that begins with the request, and zeros behind it. */
+uint32_t vc_add(uint8_t *buffer, size_t length, size_t *cursor, uint32_t id, uint32_t size,
+                const uint8_t *request, size_t request_length);
+
+/* Gives the size of the message, a multiple of 16. */
+uint32_t vc_finish(uint8_t *buffer, size_t length, size_t cursor, size_t *size);
+
+/* ---- the client: taking messages apart
+ *
+ * The message is not written. A refusal sets every number but the place to 0. */
+
+/* The tag of this index, counted from 0: its id, the size of its value, its tag word, and the offset
+ * of its value in the message. */
+uint32_t vc_list(const uint8_t *message, size_t length, size_t index, size_t *place, uint32_t *id,
+                 uint32_t *size, uint32_t *word, size_t *value);
+
+/* The answer of the tag of this id and occurrence, counted from 0, in a reply: the whole answer's
+ * length, and the offset and number of its first `wanted` bytes in the message. */
+uint32_t vc_read(const uint8_t *message, size_t length, uint32_t id, size_t occurrence, size_t wanted,
+                 size_t *place, uint32_t *answer, size_t *value, size_t *count);
+
+/* ---- the board */
+
+typedef struct {
+    uint32_t base;
+    uint32_t size;
+} vc_span;
+
+/* What never changes. `characters` says how many bytes of the command line there are, at most 256. */
+typedef struct {
+    uint32_t firmware;
+    uint32_t model;
+    uint32_t revision;
+    uint8_t mac[6];
+    uint64_t serial;
+    vc_span arm;
+    vc_span vc;
+    uint32_t dma;
+    uint32_t characters;
+} vc_facts;
+
+typedef struct {
+    bool exists;
+    bool on;
+} vc_state;
+
+/* A power device, and how long it takes to come up. */
+typedef struct {
+    vc_state state;
+    uint32_t timing;
+} vc_device;
+
+/* A clock, in Hz. */
+typedef struct {
+    vc_state state;
+    uint32_t rate;
+    uint32_t min;
+    uint32_t max;
+} vc_clock;
+
+/* A voltage, in millivolts. */
+typedef struct {
+    bool valid;
+    uint32_t value;
+    uint32_t min;
+    uint32_t max;
+} vc_voltage;
+
+/* In thousandths of a degree. */
+typedef struct {
+    uint32_t current;
+    uint32_t max;
+} vc_temperature;
+
+typedef struct {
+    uint32_t width;
+    uint32_t height;
+} vc_size;
+
+typedef struct {
+    uint32_t x;
+    uint32_t y;
+} vc_offset;
+
+/* `logical` is the virtual size. */
+typedef struct {
+    vc_size physical;
+    vc_size logical;
+    vc_offset offset;
+    uint32_t depth;
+    uint32_t order;
+    uint32_t alpha;
+} vc_settings;
+
+/* The region for the frame buffer, the settings, and the buffer that stands: none where its size is 0. */
+typedef struct {
+    vc_span region;
+    vc_settings settings;
+    vc_span buffer;
+} vc_display;
+
+/* Devices have the ids 0 to 10, clocks 1 to 14, voltages 1 to 4, in this order. */
+typedef struct {
+    vc_facts facts;
+    uint8_t line[256];
+    vc_device devices[11];
+    vc_clock clocks[14];
+    vc_voltage voltages[4];
+    vc_temperature temperature;
+    vc_display display;
+} vc_board;
+
+/* Fills in the bench record, which is valid: a board to begin with. */
+void vc_bench(vc_board *board);
+
+/* Serves the message on the board: rewrites the message with the answers, and the record as its tags
+ * change it. After VC_TOO_FEW_LENT, VC_BAD_SIZE, VC_NOT_REQUEST and VC_INVALID_BOARD both are as they were. */
+uint32_t vc_serve(vc_board *board, uint8_t *message, size_t length, size_t *place);
+
+#ifdef __cplusplus
+}
+#endif
+
+#endif
