@@ -1,31 +1,21 @@
 -- What a call changes of a message.
-use mathlib.Core.Bool.{Bool, true, false, cond}
 use mathlib.Core.List.{List, [], _∷_}
-use mathlib.Core.Logic.{_⊎_, inl, inr}
-use mathlib.Core.Path.{_≡_, refl, sym, ap, _∙_}
-use Prim.Native.Nat.{ℕ, zero, suc, _+_, _≤_, _<_, min}
+use mathlib.Core.Logic.{inl, inr}
+use mathlib.Core.Path.{_≡_, refl, _∙_}
+use Prim.Native.Nat.{ℕ, _+_, min}
 use native.Mathlib.Omega.{arith}
-use lib.Dec.{ltb, eqb}
 use lib.ListN.{length, take, getD, length-take}
 use Rattle.words.proofs.Laws.Put.{length-put, put-before, put-after}
 use Rattle.words.specs.Numbers.{le, word}
 use Rattle.words.specs.Put.{put}
-use Rattle.message.proofs.Laws.Opening.{opened-size}
-use Rattle.message.specs.Opening.{opened, goodSize}
-use Rattle.message.specs.Outcomes.{done, tooFewLent, badSize, notRequest, noEnd, runsOver, shortRequest, invalidBoard}
 use Rattle.message.specs.Sizes.{header, tagHeader, codePlace}
 use Rattle.message.specs.Walk.{wordPlace}
-use Rattle.message.specs.declared.opening.Message.{Message}
-use Rattle.message.specs.declared.opening.Opened.{Opened}
 use Rattle.message.specs.declared.walk.Tag.{Tag}
-use Rattle.board.specs.Valid.{valid}
-use Rattle.board.specs.declared.record.Board.{Board}
 use Rattle.tags.specs.Reply.{answered}
-use Rattle.responder.proofs.Laws.Endings.{Known, ending-known}
-use Rattle.responder.specs.Answers.{Said, silent, says, groupOf, answers}
-use Rattle.responder.specs.Reply.{written, writeAll, codeOf, coded, served, codedIf, openedIf, validIf, reply}
-use Rattle.responder.specs.Requests.{Trail, trail}
-use Rattle.demands.proofs.Laws.Replied.{Replied, untouched, walked, replied, Refusal, clash}
+use Rattle.responder.proofs.Laws.Endings.{ending-known}
+use Rattle.responder.specs.Answers.{Said, silent, says}
+use Rattle.responder.specs.Reply.{writeAll, codeOf, served, reply}
+use Rattle.demands.proofs.Laws.Replied.{Replied, untouched, walked, replied, clash}
 use Rattle.demands.specs.Changes.{Outside, Unanswered, trailOf, saidOf, Changes, Lengths, Refusals}
 
 -- ---- writes

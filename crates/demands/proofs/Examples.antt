@@ -1,5 +1,4 @@
 -- The worked examples come out as they say.
-use Prim.Native.Nat.{ℕ}
 use lib.Count.{onesIn}
 use Rattle.words.specs.Numbers.{numberAt}
 use Rattle.message.specs.Opening.{goodSize, opened}

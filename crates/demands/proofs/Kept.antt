@@ -1,7 +1,7 @@
 -- A valid record stays valid under every call.
 use mathlib.Core.Bool.{Bool, true, false}
 use mathlib.Core.List.{List, [], _∷_}
-use mathlib.Core.Path.{_≡_, refl, sym, ap, _∙_}
+use mathlib.Core.Path.{_≡_}
 use Prim.Native.Nat.{ℕ}
 use lib.Dec.{eqb}
 use Rattle.words.specs.Numbers.{word}
@@ -9,7 +9,7 @@ use Rattle.message.specs.Opening.{opened}
 use Rattle.message.specs.Outcomes.{done}
 use Rattle.message.specs.Sizes.{header, codePlace}
 use Rattle.message.specs.declared.opening.Opened.{Opened}
-use Rattle.board.proofs.Laws.Valid.{Parts, valid-parts, parts-valid}
+use Rattle.board.proofs.Laws.Valid.{valid-parts, parts-valid}
 use Rattle.board.specs.Valid.{valid, validDisplay}
 use Rattle.board.specs.declared.display.Display.{Display}
 use Rattle.board.specs.declared.record.Board.{Board}
@@ -17,7 +17,7 @@ use Rattle.tags.proofs.Laws.Kept.{outside-valid}
 use Rattle.display.proofs.Laws.Kept.{decided-valid}
 use Rattle.display.specs.declared.operation.Operation.{Operation}
 use Rattle.responder.specs.Answers.{groupBy, groupOf, afterBy, after, first, second}
-use Rattle.responder.specs.Reply.{served, codedIf, openedIf, validIf, reply, withDisplay}
+use Rattle.responder.specs.Reply.{served, codedIf, openedIf, reply, withDisplay}
 use Rattle.responder.specs.Requests.{Request, passed, short, asks, trail}
 use Rattle.demands.specs.Kept.{Kept}
 

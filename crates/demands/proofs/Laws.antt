@@ -1,9 +1,7 @@
 pub mod Tags
 pub mod Runs
 pub mod Lists
-pub mod Follows
 pub mod Alike
 pub mod ReadBack
 pub mod Replied
 pub mod Rewritten
-pub mod Saids

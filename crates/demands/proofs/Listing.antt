@@ -1,12 +1,9 @@
 -- The lister shows what the builder took.
-use mathlib.Core.List.{List}
-use mathlib.Core.Path.{_≡_, sym}
-use Prim.Native.Nat.{ℕ}
 use Rattle.message.proofs.Laws.Builder.{started-at}
 use Rattle.message.specs.Builder.{started}
 use Rattle.message.specs.Sizes.{header}
 use Rattle.demands.proofs.Laws.Lists.{lists}
-use Rattle.demands.proofs.Laws.Runs.{Ran, ran, whole}
+use Rattle.demands.proofs.Laws.Runs.{ran, whole}
 use Rattle.demands.proofs.Laws.Tags.{Holds}
 use Rattle.demands.specs.Listing.{Listing, run, request}
 

@@ -1,30 +1,26 @@
 -- Two faultless requests alike but for longer value buffers in the second.
 use mathlib.Core.Bool.{Bool, true, false, cond}
-use mathlib.Core.List.{List, [], _∷_, map}
+use mathlib.Core.List.{List, map}
 use mathlib.Core.Logic.{inl}
-use mathlib.Core.Path.{_≡_, refl, sym, ap, _∙_, subst}
+use mathlib.Core.Path.{_≡_, refl, sym, ap, _∙_}
 use Prim.Native.Nat.{ℕ, _+_, _≤_, _<_, min}
 use native.Mathlib.Omega.{arith}
 use borrow.Author.Tests.{ltb-true, ltb-false}
-use lib.Dec.{ltb, leb, eqb}
+use lib.Dec.{ltb, leb}
 use lib.ListN.{length, take, drop, getD}
 use Rattle.words.specs.Numbers.{word}
-use Rattle.message.proofs.Laws.Opening.{GoodSize}
 use Rattle.message.proofs.Laws.Reader.{Paired, paired-found, unmet-end}
 use Rattle.message.specs.Builder.{Call}
 use Rattle.message.specs.Outcomes.{done, noSuchTag, notAnswered, fewerStored}
 use Rattle.message.specs.Reader.{unread, unmet, isAnswered, answerLength, stored, judged, withId, foundIn, found}
-use Rattle.message.specs.Sizes.{header, tagHeader}
-use Rattle.message.specs.Walk.{Walk}
+use Rattle.message.specs.Sizes.{tagHeader}
 use Rattle.message.specs.declared.reader.Reading.{Reading}
 use Rattle.message.specs.declared.walk.Ending.{Ending}
 use Rattle.message.specs.declared.walk.Tag.{Tag}
-use Rattle.board.specs.Valid.{valid}
-use Rattle.board.specs.declared.display.Display.{Display}
 use Rattle.board.specs.declared.record.Board.{Board}
 use Rattle.responder.specs.Answers.{Said, silent, says, groupOf, answers, after}
 use Rattle.responder.specs.Reply.{withDisplay, served, reply}
-use Rattle.responder.specs.Requests.{Request, Trail, trail}
+use Rattle.responder.specs.Requests.{Request, trail}
 use Rattle.responder.specs.declared.respond.Served.{Served}
 use Rattle.display.specs.declared.decision.Decision.{Decision}
 use Rattle.demands.proofs.Laws.Alike.{requests-same, walk-done, Pair, paired-after, paired-words, At, alike-at, alike-length, alike-occurrence}
@@ -33,8 +29,8 @@ use Rattle.demands.proofs.ReadingBack.{reads, found-left}
 use Rattle.demands.proofs.Walked.{walked-is, bytes-are}
 use Rattle.demands.specs.Changes.{trailOf, saidOf}
 use Rattle.demands.specs.Longer.{Alike, storedAt, Shown, Same, Longer}
-use Rattle.demands.specs.ReadingBack.{noTag, tagOf, occurrence, saidAt, readingOf, ReadsAnswer, Reads}
-use Rattle.demands.specs.Walked.{tagAfter, tagsAfter, walkOf, Six}
+use Rattle.demands.specs.ReadingBack.{tagOf, occurrence, saidAt, readingOf, ReadsAnswer}
+use Rattle.demands.specs.Walked.{tagsAfter, walkOf, Six}
 
 -- ---- a faultless request
 record Faultless (b : Board) (m : List ℕ) : Type 0 where

@@ -1,12 +1,11 @@
 -- The premises of `ReadingBack` and `Longer` can be met: a MAC address with a value of 4 bytes against one of 8, a tag that is passed over, and a frame buffer operation.
 use mathlib.Core.List.{List, [], _∷_}
 use mathlib.Core.Logic.{inl}
-use mathlib.Core.Path.{_≡_, refl, sym, ap, _∙_, subst}
+use mathlib.Core.Path.{_≡_, refl, sym, _∙_, subst}
 use Prim.Native.Nat.{ℕ, _≤_}
 use native.Mathlib.Omega.{arith}
 use lib.Count.{onesIn}
-use lib.Dec.{lit≤, lit<}
-use lib.ListN.{length, take, drop}
+use lib.Dec.{lit≤}
 use Rattle.words.specs.Numbers.{numberAt}
 use Rattle.message.specs.Opening.{goodSize, opened}
 use Rattle.message.specs.Outcomes.{done}
@@ -27,7 +26,7 @@ use Rattle.tags.specs.declared.table.Row.{Row}
 use Rattle.tags.specs.declared.table.Setting.{Setting}
 use Rattle.display.specs.Decision.{oneBit, placedAt, allocatable, fitsBuffer, accepted, decided, groupAnswer}
 use Rattle.display.specs.Operation.{withSetting, noted}
-use Rattle.responder.specs.Answers.{Said, silent, says, groupOf, saidBy, afterBy}
+use Rattle.responder.specs.Answers.{silent, says, groupOf, saidBy, afterBy}
 use Rattle.responder.specs.Reply.{served, reply}
 use Rattle.responder.specs.Requests.{valueOf, requestBytes, requestBy, requestOf, trail}
 use Rattle.demands.proofs.Longer.{longer-is}

@@ -1,7 +1,7 @@
 -- The reader shows what the responder stored.
 use mathlib.Core.Bool.{Bool, true, false, cond}
 use mathlib.Core.List.{List, [], _∷_}
-use mathlib.Core.Path.{_≡_, refl, sym, ap, _∙_, subst}
+use mathlib.Core.Path.{_≡_, refl, sym, ap, _∙_}
 use Prim.Native.Nat.{ℕ, zero, suc, _+_, _^_, _≤_, _<_, min}
 use native.Mathlib.Omega.{arith}
 use lib.Dec.{eqb}
@@ -13,28 +13,24 @@ use Rattle.words.specs.Put.{put}
 use Rattle.message.proofs.Laws.Opening.{GoodSize, opened-good}
 use Rattle.message.proofs.Laws.Reader.{response-done, response-fault, found-response, found-judged, judged-not-answered}
 use Rattle.message.specs.Opening.{opened}
-use Rattle.message.specs.Outcomes.{done, notAnswered, fewerStored}
-use Rattle.message.specs.Reader.{isResponse, unread, withId, judged, foundIn, found}
+use Rattle.message.specs.Outcomes.{done}
+use Rattle.message.specs.Reader.{isResponse, judged, foundIn, found}
 use Rattle.message.specs.Sizes.{header, tagHeader, codePlace}
-use Rattle.message.specs.Walk.{Walk, walkFrom}
-use Rattle.message.specs.declared.opening.Message.{Message}
+use Rattle.message.specs.Walk.{walkFrom}
 use Rattle.message.specs.declared.opening.Opened.{Opened}
-use Rattle.message.specs.declared.reader.Reading.{Reading}
-use Rattle.message.specs.declared.walk.Tag.{Tag}
 use Rattle.board.specs.Valid.{valid}
 use Rattle.board.specs.declared.record.Board.{Board}
-use Rattle.responder.specs.Answers.{Said, silent, says, groupOf, answers}
-use Rattle.responder.specs.Reply.{writeAll, codeOf, served, reply}
+use Rattle.responder.specs.Answers.{Said, silent, says, groupOf}
+use Rattle.responder.specs.Reply.{codeOf, reply}
 use Rattle.demands.proofs.Changes.{writes-length}
-use Rattle.demands.proofs.Laws.Follows.{Follows, follows, follows-walk}
+use Rattle.responder.proofs.Laws.Follows.{follows, follows-walk}
 use Rattle.demands.proofs.Laws.ReadBack.{nth-at, judged-shows, judged-lacks, value-written}
 use Rattle.demands.proofs.Laws.Replied.{Replied, untouched, walked, replied, clash}
-use Rattle.demands.proofs.Laws.Rewritten.{Short}
-use Rattle.demands.proofs.Laws.Saids.{saids-short, few-characters}
+use Rattle.responder.proofs.Laws.Saids.{Short, saids-short, few-characters}
 use Rattle.demands.proofs.Walked.{filled, code, whole, bytes-are, size-same, follows-whole}
 use Rattle.demands.specs.Changes.{trailOf, saidOf}
-use Rattle.demands.specs.ReadingBack.{noTag, tagOf, occurrence, saidAt, readingOf, ReadsAnswer, Reads, ReadingBack}
-use Rattle.demands.specs.Walked.{tagAfter, tagsAfter, walkOf, Walks, Six}
+use Rattle.demands.specs.ReadingBack.{tagOf, occurrence, saidAt, Reads, ReadingBack}
+use Rattle.demands.specs.Walked.{tagAfter, tagsAfter, walkOf, Six}
 
 -- ---- each answer is short
 short-at : (ss : List Said) (i : ℕ) {answer : List ℕ} → Short ss → getD ss i silent ≡ says answer → length answer < 2 ^ 31

@@ -1,47 +1,29 @@
 -- The walk of a reply.
-use mathlib.Core.Bool.{Bool, true, false, cond}
-use mathlib.Core.List.{List, [], _∷_}
-use mathlib.Core.Path.{_≡_, refl, sym, ap, _∙_, subst}
-use Prim.Native.Nat.{ℕ, _+_, _^_, _≤_, _<_}
+use mathlib.Core.Bool.{true}
+use mathlib.Core.List.{List}
+use mathlib.Core.Path.{_≡_, sym, ap, _∙_}
+use Prim.Native.Nat.{ℕ}
 use native.Mathlib.Omega.{arith}
-use borrow.Author.Tests.{leb-true, ltb-true}
-use lib.Dec.{leb, ltb}
-use lib.ListN.{length, take, drop, length-take}
-use Rattle.words.proofs.Laws.Agree.{number-before, take-earlier}
+use lib.ListN.{length, take}
+use Rattle.words.proofs.Laws.Agree.{number-before}
 use Rattle.words.proofs.Laws.Put.{take-put, drop-put}
 use Rattle.words.specs.Numbers.{le, word}
 use Rattle.words.specs.Put.{put}
 use Rattle.message.proofs.Laws.Opening.{GoodSize}
 use Rattle.message.specs.Sizes.{header, codePlace}
-use Rattle.message.specs.Walk.{Walk, walkFrom}
-use Rattle.message.specs.declared.walk.Ending.{Ending}
-use Rattle.message.specs.declared.walk.Tag.{Tag}
-use Rattle.board.proofs.Laws.Valid.{Parts, valid-parts}
-use Rattle.board.specs.Valid.{valid, validFacts}
-use Rattle.board.specs.declared.facts.Facts.{Facts}
+use Rattle.message.specs.Walk.{walkFrom}
+use Rattle.board.specs.Valid.{valid}
 use Rattle.board.specs.declared.record.Board.{Board}
-use Rattle.responder.specs.Answers.{Said, silent, says, groupOf, saidBy, afterBy, answers}
-use Rattle.responder.specs.Reply.{written, writeAll, codeOf, served, reply}
-use Rattle.responder.specs.Requests.{Request, passed, short, asks, requestOf, Trail, cutBy, cut, trail}
-use Rattle.display.specs.declared.decision.Decision.{Decision}
-use Rattle.demands.proofs.Laws.Follows.{Follows, follows, follows-walk, follows-same}
+use Rattle.responder.specs.Answers.{groupOf}
+use Rattle.responder.specs.Reply.{writeAll, codeOf, served, reply}
+use Rattle.responder.specs.Requests.{trail}
+use Rattle.responder.proofs.Laws.Follows.{Follows, follows, follows-walk, follows-same}
 use Rattle.demands.proofs.Laws.Replied.{Replied, untouched, walked, replied, clash}
-use Rattle.demands.proofs.Laws.Rewritten.{Short, writes-before, follows-written}
-use Rattle.demands.proofs.Laws.Saids.{saids-short, few-characters}
+use Rattle.demands.proofs.Laws.Rewritten.{follows-written}
+use Rattle.responder.proofs.Laws.Saids.{saids-short, few-characters}
+use Rattle.responder.proofs.Laws.Written.{cut-writes, writes-before}
 use Rattle.demands.specs.Changes.{trailOf, saidOf}
 use Rattle.demands.specs.Walked.{tagsAfter, walkOf, Walked}
-
--- the tags behind a cut say nothing
-cut-writes : (g : Decision) (b : Board) (m : List ℕ) (ts : List Tag) (e : Ending) (x : List ℕ)
-    → writeAll (cut m ts e .tags) (answers g b (cut m ts e .requests)) x ≡ writeAll ts (answers g b (cut m ts e .requests)) x
-cut-writes g b m [] e x = refl
-cut-writes g b m (t ∷ ts) e x = go (requestOf m t) (λ (r : Request). cut-writes g (afterBy b r) m ts e (written t (saidBy g b r) x))
-  where
-    go : (r : Request) → ((q : Request) → writeAll (cut m ts e .tags) (answers g (afterBy b q) (cut m ts e .requests)) (written t (saidBy g b q) x) ≡ writeAll ts (answers g (afterBy b q) (cut m ts e .requests)) (written t (saidBy g b q) x))
-        → writeAll (cutBy r t (cut m ts e) .tags) (answers g b (cutBy r t (cut m ts e) .requests)) x ≡ writeAll (t ∷ ts) (answers g b (cutBy r t (cut m ts e) .requests)) x
-    go passed h = h passed
-    go short h = refl
-    go (asks k bytes) h = h (asks k bytes)
 
 module _ (b : Board) (m : List ℕ) (six : length (b .facts .mac) ≡ 6) (v : valid b ≡ true) (g : GoodSize (word m 0) (length m)) where
   -- what is written, and with the code word

@@ -8,10 +8,8 @@ use Rattle.board.specs.Bench.{bench}
 use Rattle.board.specs.Display.{pitchOf}
 use Rattle.board.specs.Valid.{all}
 use Rattle.board.specs.declared.record.Board.{Board}
-use Rattle.message.specs.Builder.{Call}
 use Rattle.tags.specs.Voltage.{maxOffset, minOffset}
 use Rattle.responder.specs.Reply.{reply}
-use Rattle.responder.specs.declared.respond.Served.{Served}
 
 -- a message served on the record that earlier ones left; a pitch; the offsets of a voltage's maximum and minimum
 pub data Case : Type 0 where

@@ -9,10 +9,8 @@ use Rattle.words.specs.Put.{zeros}
 use Rattle.message.specs.Builder.{Call, started, added, finished}
 use Rattle.message.specs.Lister.{listed, unlisted}
 use Rattle.message.specs.Outcomes.{done, noSuchTag}
-use Rattle.message.specs.declared.builder.Built.{Built}
 use Rattle.message.specs.declared.builder.Cursor.{Cursor}
 use Rattle.message.specs.declared.builder.Finished.{Finished}
-use Rattle.message.specs.declared.lister.Listed.{Listed}
 
 -- what an add asks for: an id, a value of `size` bytes, and its first bytes
 pub record Add : Type 0 where

@@ -8,11 +8,10 @@ use words::bytes::clear;
 use words::bytes::store;
 use words::numbers::put_u32;
 ghost use mathlib.Core.Path.{_≡_};
-ghost use Prim.Native.Nat.{_≤_, _^_, min};
+ghost use Prim.Native.Nat.{_≤_, _^_};
 ghost use lib.ListN.{length};
 ghost use Rattle.words.specs.Put.{put};
-ghost use Rattle.words.specs.Round.{roundUp};
-ghost use Rattle.message.specs.Builder.{goodCursor, finishedSize, room, startOutcome, addOutcome, finishOutcome, TagFits, EndFits, tagBytes, closed, leaves, started, added, finished};
+ghost use Rattle.message.specs.Builder.{goodCursor, finishedSize, room, addOutcome, finishOutcome, TagFits, EndFits, tagBytes, closed, leaves, started, added, finished};
 ghost use Rattle.message.specs.Sizes.{header, largest};
 ghost use Rattle.message.specs.Walk.{tagEnd};
 

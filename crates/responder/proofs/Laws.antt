@@ -1,8 +1,12 @@
 pub mod Asks
 pub mod Said
-pub mod Sorts
+pub mod Saids
 pub mod Trails
-pub mod Scanning
 pub mod Serving
 pub mod Endings
+pub mod Follows
+pub mod Written
+pub mod Twice
+pub mod Group
+pub mod Sweeping
 pub mod Responding

@@ -10,7 +10,6 @@ use Rattle.board.specs.declared.display.Display.{Display}
 use Rattle.board.specs.declared.record.Board.{Board}
 use Rattle.tags.specs.Answer.{answerBytes}
 use Rattle.tags.specs.Outside.{outsideAnswer, outsideAfter}
-use Rattle.tags.specs.declared.answer.Answer.{Answer}
 use Rattle.tags.specs.declared.table.Kind.{Kind}
 use Rattle.display.specs.Decision.{decided, mixed, groupAnswer}
 use Rattle.display.specs.Operation.{unasked, noted}

@@ -1,6 +1,6 @@
 -- What a request asks of the record, as the serving loop takes it apart: the item that it names by its place, or a fixed answer where the id is not listed.
-use mathlib.Core.Bool.{Bool, true, false, cond}
-use mathlib.Core.List.{List, _++_}
+use mathlib.Core.Bool.{cond}
+use mathlib.Core.List.{_++_}
 use mathlib.Core.Path.{_≡_}
 use Prim.Native.Nat.{ℕ, _+_, _%_, _≤_, _<_}
 use lib.ListN.{getD, set}
@@ -22,7 +22,9 @@ use Rattle.tags.specs.declared.table.Kind.{Kind}
 use Rattle.tags.specs.declared.table.PowerTag.{PowerTag}
 use Rattle.tags.specs.declared.table.VoltageTag.{VoltageTag}
 use Rattle.display.specs.Decision.{groupAnswer}
+use Rattle.display.specs.Operation.{noted}
 use Rattle.display.specs.declared.decision.Decision.{Decision}
+use Rattle.display.specs.declared.operation.Operation.{Operation}
 use Rattle.responder.specs.Answers.{Said, silent, says, first, second}
 use Rattle.responder.specs.Requests.{Request, passed, short, asks}
 use Rattle.responder.specs.declared.ask.Ask.{Ask}
@@ -104,6 +106,17 @@ afterOf b (Ask.Clock t i a x) = withClocks b (set (b .clocks) i (clockAfter t x 
 afterOf b (Ask.Voltage t i a x) = withVoltages b (set (b .voltages) i (voltageAfter t x (getD (b .voltages) i noVoltage)))
 afterOf b (Ask.Temperature t a) = b
 afterOf b (Ask.Frame t a x) = b
+
+abbrev pub noteOf : Ask → Operation → Operation
+noteOf Ask.Pass o = o
+noteOf Ask.Short o = o
+noteOf (Ask.Fixed a n) o = o
+noteOf (Ask.Fact t) o = o
+noteOf (Ask.Power t i a x) o = o
+noteOf (Ask.Clock t i a x) o = o
+noteOf (Ask.Voltage t i a x) o = o
+noteOf (Ask.Temperature t a) o = o
+noteOf (Ask.Frame t a x) o = noted t a x o
 
 -- ---- what the helpers ask
 pub record InMessage (lent : ℕ) (t : Tag) : Type 0 where

@@ -2,5 +2,4 @@ pub mod Requests
 pub mod Answers
 pub mod Reply
 pub mod Ask
-pub mod Scan
 pub mod Serve

@@ -9,9 +9,7 @@ use Rattle.message.specs.Builder.{Call, leaves}
 use Rattle.message.specs.Opening.{opened}
 use Rattle.message.specs.Outcomes.{done, notRequest, invalidBoard}
 use Rattle.message.specs.Sizes.{header, codePlace}
-use Rattle.message.specs.declared.opening.Message.{Message}
 use Rattle.message.specs.declared.opening.Opened.{Opened}
-use Rattle.message.specs.declared.walk.Ending.{Ending}
 use Rattle.message.specs.declared.walk.Tag.{Tag}
 use Rattle.board.specs.Valid.{valid}
 use Rattle.board.specs.declared.display.Display.{Display}

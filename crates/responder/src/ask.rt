@@ -23,7 +23,7 @@ use tags::voltage::voltage_after;
 use tags::voltage::voltage_value;
 use words::numbers::u32_at;
 ghost use mathlib.Core.Path.{_≡_};
-ghost use Prim.Native.Nat.{_+_, _%_, _≤_};
+ghost use Prim.Native.Nat.{_+_};
 ghost use lib.ListN.{length, take, drop};
 ghost use Rattle.words.specs.Numbers.{word};
 ghost use Rattle.responder.specs.Ask.{Named, InMessage, RequestFits, powerAsk, clockAsk, voltageAsk, kindAsk, askOf};

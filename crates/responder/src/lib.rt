@@ -1,5 +1,5 @@
 // The responder: the emulated board serves a message.
 pub mod ask;
+pub mod group;
 pub mod respond;
-pub mod scan;
 pub mod serve;

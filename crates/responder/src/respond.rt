@@ -1,13 +1,7 @@
 // Serving a message.
-use crate::scan::Seen;
-use crate::scan::scan;
 use crate::serve::serve;
-use board::display::Display;
 use board::record::Board;
 use board::valid::is_valid;
-use display::decision::Decision;
-use display::decision::decide;
-use display::decision::leave;
 use message::opening::Message;
 use message::opening::Opened;
 use message::opening::open;
@@ -16,13 +10,10 @@ use words::numbers::put_u32;
 use words::numbers::u32_at;
 ghost use mathlib.Core.Bool.{true};
 ghost use mathlib.Core.Path.{_≡_};
-ghost use lib.Dec.{eqb};
 ghost use Rattle.message.specs.Builder.{leaves};
-ghost use Rattle.message.specs.Outcomes.{done};
 ghost use Rattle.message.specs.Sizes.{header};
 ghost use Rattle.message.specs.Walk.{Walking};
-ghost use Rattle.board.specs.Valid.{valid, validDisplay};
-ghost use Rattle.responder.specs.Answers.{groupBy};
+ghost use Rattle.board.specs.Valid.{valid};
 ghost use Rattle.responder.specs.Reply.{codeOf, served, reply};
 
 // How a message was served, and the record afterwards.
@@ -52,35 +43,14 @@ fn code_of(outcome: u32) -> u32
     }
 }
 
-// The group of a message that was seen: decided where the message is faultless.
-fn group_of(d: Display, seen: Seen) -> Decision
-    requires { ⌜ validDisplay d ≡ true ⌝ }
-    ensures { λ r. ⌜ r ≡ groupBy (eqb (seen .ending .outcome) done) d (seen .operation) ⌝ }
-{
-    if seen.ending.outcome == outcome::DONE {
-        return decide(d, seen.operation);
-    }
-    leave(d)
-}
-
 // Serves an opened request of `size` bytes on a valid record.
 fn serve_opened(board: Board, msg: &mut [u8], size: usize) -> Served
     requires { ⌜ (Walking (now msg) size header) × (valid board ≡ true) ⌝ }
     ensures { λ r. ⌜ leaves (now (msg .exit)) r ≡ served board (now (msg .entry)) size ⌝ }
 {
-    let display = board.display;
-    let seen = scan(msg, size, display.settings);
-    let group = group_of(display, seen);
-    let mut after = serve(msg, size, board, group);
-    let shown = group.display;
-    after.display = shown;
-    let ending = seen.ending;
-    put_u32(msg, Message::CODE, code_of(ending.outcome));
-    Served {
-        outcome: ending.outcome,
-        place: ending.place,
-        board: after,
-    }
+    let after = serve(msg, size, board);
+    put_u32(msg, Message::CODE, code_of(after.outcome));
+    after
 }
 
 // Serves the message that the lent bytes hold, and rewrites it in place. Any bytes and any record

@@ -2,11 +2,17 @@
 // variable, and only one item of it goes through a call.
 use crate::ask::Ask;
 use crate::ask::ask_at;
+use crate::group::group_of;
+use crate::respond::Served;
 use board::record::Board;
-use display::decision::Decision;
 use display::decision::answer_group;
+use display::decision::leave;
+use display::operation::note;
+use display::operation::start;
 use message::opening::Message;
+use message::outcome;
 use message::walk::Step;
+use message::walk::ended;
 use message::walk::step_at;
 use tags::clock::clock_after;
 use tags::clock::clock_value;
@@ -18,28 +24,62 @@ use tags::reply::put_pair;
 use tags::temperature::temperature_value;
 use tags::voltage::voltage_after;
 use tags::voltage::voltage_value;
+ghost use mathlib.Core.Bool.{true};
 ghost use mathlib.Core.Path.{_≡_};
 ghost use Rattle.message.specs.Sizes.{header};
 ghost use Rattle.message.specs.Walk.{Walking};
+ghost use Rattle.board.specs.Valid.{valid};
 ghost use Rattle.responder.specs.Serve.{Carried};
 
-// Carries out the tags of a message of `size` bytes, its group as decided. No entry point: the
-// message has been opened and scanned.
-pub fn serve(msg: &mut [u8], size: usize, board: Board, group: Decision) -> Board
-    requires { ⌜ Walking (now msg) size header ⌝ }
-    ensures { λ r. ⌜ Carried group (now (msg .entry)) size board (now (msg .exit)) r ⌝ }
+// Carries out the tags of a message of `size` bytes, on a valid record. The first walk answers the
+// tags outside the group and notes those of the group; where these are answered, a second one does
+// it, and passes the others over. No entry point: the message has been opened.
+pub fn serve(msg: &mut [u8], size: usize, board: Board) -> Served
+    requires { ⌜ (Walking (now msg) size header) × (valid board ≡ true) ⌝ }
+    ensures { λ r. ⌜ Carried (now (msg .entry)) size board (now (msg .exit)) r ⌝ }
 {
     let mut b = board;
+    let display = b.display;
+    let mut group = leave(display);
+    let mut operation = start(display.settings);
     let mut p = Message::HEADER;
     loop {
         let st = step_at(msg, size, p);
         let Step::Tag(tag, next) = st else {
-            return b;
+            let ending = ended(st);
+            if group.answered {
+                let shown = group.display;
+                b.display = shown;
+                return Served {
+                    outcome: ending.outcome,
+                    place: ending.place,
+                    board: b,
+                };
+            }
+            let decided = group_of(display, ending.outcome, operation);
+            if decided.answered {
+                group = decided;
+                p = Message::HEADER;
+                continue;
+            }
+            let shown = decided.display;
+            b.display = shown;
+            return Served {
+                outcome: ending.outcome,
+                place: ending.place,
+                board: b,
+            };
         };
         let ask = ask_at(msg, tag);
         match ask {
             Ask::Short => {
-                return b;
+                let shown = group.display;
+                b.display = shown;
+                return Served {
+                    outcome: outcome::SHORT_REQUEST,
+                    place: p,
+                    board: b,
+                };
             }
             Ask::Pass => {
                 p = next;
@@ -83,13 +123,14 @@ pub fn serve(msg: &mut [u8], size: usize, board: Board, group: Decision) -> Boar
                 p = next;
                 continue;
             }
-            Ask::Frame(kind, _, _) => {
+            Ask::Frame(kind, a, x) => {
                 if group.answered {
                     let answer = answer_group(group, kind);
                     put_answer(msg, tag.at, tag.size, answer, b.facts, &b.line);
                     p = next;
                     continue;
                 }
+                operation = note(operation, kind, a, x);
                 p = next;
                 continue;
             }

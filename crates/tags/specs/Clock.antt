@@ -1,5 +1,5 @@
 -- Clocks, ids 1 to 14.
-use mathlib.Core.Bool.{Bool, true, false, cond}
+use mathlib.Core.Bool.{cond}
 use Prim.Native.Nat.{ℕ, min, max}
 use Rattle.board.specs.declared.items.Clock.{Clock}
 use Rattle.tags.specs.Place.{placeOf}

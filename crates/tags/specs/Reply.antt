@@ -1,6 +1,6 @@
 -- An answer written into its tag.
 use mathlib.Core.List.{List}
-use Prim.Native.Nat.{ℕ, _+_, _^_, _≤_}
+use Prim.Native.Nat.{ℕ, _+_, _≤_}
 use lib.ListN.{length, take}
 use Rattle.words.specs.Numbers.{le}
 use Rattle.words.specs.Put.{put}

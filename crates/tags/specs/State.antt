@@ -1,5 +1,5 @@
 -- The state of a device or a clock.
-use mathlib.Core.Bool.{Bool, true, false, cond}
+use mathlib.Core.Bool.{true, cond}
 use Prim.Native.Nat.{ℕ, _%_}
 use lib.Dec.{eqb}
 use Rattle.board.specs.declared.items.State.{State}

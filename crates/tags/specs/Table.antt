@@ -1,5 +1,5 @@
 -- The table of known tags.
-use mathlib.Core.Bool.{Bool, true, false, cond}
+use mathlib.Core.Bool.{cond}
 use mathlib.Core.List.{List, [], _∷_, _++_}
 use Prim.Native.Nat.{ℕ}
 use lib.Dec.{eqb}
@@ -8,7 +8,6 @@ use Rattle.tags.specs.declared.table.FactTag.{FactTag}
 use Rattle.tags.specs.declared.table.FrameTag.{FrameTag}
 use Rattle.tags.specs.declared.table.Kind.{Kind}
 use Rattle.tags.specs.declared.table.Mode.{Mode}
-use Rattle.tags.specs.declared.table.Outline.{Outline}
 use Rattle.tags.specs.declared.table.PowerTag.{PowerTag}
 use Rattle.tags.specs.declared.table.Row.{Row}
 use Rattle.tags.specs.declared.table.Setting.{Setting}
@@ -95,16 +94,3 @@ find id (e ∷ es) = cond (eqb id (e .id)) (Row.Known (e .kind) (e .request)) (f
 -- the row of an id: that of its entry, or unknown
 unfoldable pub rowOf : ℕ → Row
 rowOf id = find id table
-
--- what a read-only walk asks of a row: the length of the request, and the group's tag where it is one
-abbrev pub kindOutline : Kind → (length : ℕ) → Outline
-kindOutline (Kind.Frame t) length = Outline.Frame t length
-kindOutline (Kind.Fact t) length = Outline.Other length
-kindOutline (Kind.Power t) length = Outline.Other length
-kindOutline (Kind.Clock t) length = Outline.Other length
-kindOutline (Kind.Voltage t) length = Outline.Other length
-kindOutline (Kind.Temperature t) length = Outline.Other length
-
-unfoldable pub outlineOf : Row → Outline
-outlineOf Row.Unknown = Outline.Other 0
-outlineOf (Row.Known kind length) = kindOutline kind length

@@ -1,5 +1,5 @@
 -- The temperature.
-use mathlib.Core.Bool.{Bool, true, false, cond}
+use mathlib.Core.Bool.{cond}
 use Prim.Native.Nat.{ℕ}
 use lib.Dec.{eqb}
 use Rattle.board.specs.declared.items.Temperature.{Temperature}

@@ -1,6 +1,6 @@
 -- Voltages, ids 1 to 4, in millivolts.
-use mathlib.Core.Bool.{Bool, true, false, cond}
-use Prim.Native.Nat.{ℕ, suc, _+_, _-_, _*_, _/_, _%_, _^_}
+use mathlib.Core.Bool.{cond}
+use Prim.Native.Nat.{ℕ, _+_, _-_, _/_, _%_, _^_}
 use lib.Dec.{ltb}
 use Rattle.board.specs.declared.items.Voltage.{Voltage}
 use Rattle.tags.specs.Clock.{clamp}

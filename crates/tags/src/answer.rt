@@ -5,7 +5,6 @@ use words::numbers::put_u32;
 use words::numbers::put_u64;
 ghost use mathlib.Core.List.{_++_};
 ghost use mathlib.Core.Path.{_≡_};
-ghost use Prim.Native.Nat.{min};
 ghost use lib.ListN.{length, take};
 ghost use Rattle.words.specs.Numbers.{le};
 ghost use Rattle.words.specs.Put.{over};

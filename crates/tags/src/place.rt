@@ -1,5 +1,4 @@
 // Where the item of an id stands among those of its kind.
-ghost use mathlib.Core.Path.{_≡_};
 ghost use Rattle.tags.specs.Place.{Placed};
 
 pub enum Place {

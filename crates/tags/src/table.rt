@@ -1,6 +1,6 @@
 // The table of known tags.
 ghost use mathlib.Core.Path.{_≡_};
-ghost use Rattle.tags.specs.Table.{rowOf, outlineOf};
+ghost use Rattle.tags.specs.Table.{rowOf};
 
 pub enum FactTag {
     Firmware,
@@ -131,66 +131,5 @@ pub fn row_of(id: u32) -> Row
         0x0004_0001 => Row::Known(Kind::Frame(FrameTag::Allocate), 4),
         0x0004_8001 => Row::Known(Kind::Frame(FrameTag::Release), 0),
         _ => Row::Unknown,
-    }
-}
-
-// What a read-only walk asks of a row: whether its tag is one of the frame buffer group, and the
-// length of its request. An unknown id asks for nothing.
-pub enum Outline {
-    Frame(FrameTag, usize),
-    Other(usize),
-}
-
-// The outline of any id's row. A walk that needs no more is quicker without the row.
-pub fn outline_of(id: u32) -> Outline
-    ensures { λ r. ⌜ r ≡ outlineOf (rowOf id) ⌝ }
-{
-    match id {
-        0x0000_0001 => Outline::Other(0),
-        0x0001_0001 => Outline::Other(0),
-        0x0001_0002 => Outline::Other(0),
-        0x0001_0003 => Outline::Other(0),
-        0x0001_0004 => Outline::Other(0),
-        0x0001_0005 => Outline::Other(0),
-        0x0001_0006 => Outline::Other(0),
-        0x0005_0001 => Outline::Other(0),
-        0x0006_0001 => Outline::Other(0),
-        0x0002_0001 => Outline::Other(4),
-        0x0002_0002 => Outline::Other(4),
-        0x0002_8001 => Outline::Other(8),
-        0x0003_0001 => Outline::Other(4),
-        0x0003_8001 => Outline::Other(8),
-        0x0003_0002 => Outline::Other(4),
-        0x0003_0004 => Outline::Other(4),
-        0x0003_0007 => Outline::Other(4),
-        0x0003_8002 => Outline::Other(8),
-        0x0003_0003 => Outline::Other(4),
-        0x0003_8003 => Outline::Other(8),
-        0x0003_0005 => Outline::Other(4),
-        0x0003_0008 => Outline::Other(4),
-        0x0003_0006 => Outline::Other(4),
-        0x0003_000a => Outline::Other(4),
-        0x0004_0003 => Outline::Frame(FrameTag::Of(Mode::Get, Setting::Physical), 0),
-        0x0004_4003 => Outline::Frame(FrameTag::Of(Mode::Test, Setting::Physical), 8),
-        0x0004_8003 => Outline::Frame(FrameTag::Of(Mode::Set, Setting::Physical), 8),
-        0x0004_0004 => Outline::Frame(FrameTag::Of(Mode::Get, Setting::Virtual), 0),
-        0x0004_4004 => Outline::Frame(FrameTag::Of(Mode::Test, Setting::Virtual), 8),
-        0x0004_8004 => Outline::Frame(FrameTag::Of(Mode::Set, Setting::Virtual), 8),
-        0x0004_0005 => Outline::Frame(FrameTag::Of(Mode::Get, Setting::Depth), 0),
-        0x0004_4005 => Outline::Frame(FrameTag::Of(Mode::Test, Setting::Depth), 4),
-        0x0004_8005 => Outline::Frame(FrameTag::Of(Mode::Set, Setting::Depth), 4),
-        0x0004_0006 => Outline::Frame(FrameTag::Of(Mode::Get, Setting::Order), 0),
-        0x0004_4006 => Outline::Frame(FrameTag::Of(Mode::Test, Setting::Order), 4),
-        0x0004_8006 => Outline::Frame(FrameTag::Of(Mode::Set, Setting::Order), 4),
-        0x0004_0007 => Outline::Frame(FrameTag::Of(Mode::Get, Setting::Alpha), 0),
-        0x0004_4007 => Outline::Frame(FrameTag::Of(Mode::Test, Setting::Alpha), 4),
-        0x0004_8007 => Outline::Frame(FrameTag::Of(Mode::Set, Setting::Alpha), 4),
-        0x0004_0009 => Outline::Frame(FrameTag::Of(Mode::Get, Setting::Offset), 0),
-        0x0004_4009 => Outline::Frame(FrameTag::Of(Mode::Test, Setting::Offset), 8),
-        0x0004_8009 => Outline::Frame(FrameTag::Of(Mode::Set, Setting::Offset), 8),
-        0x0004_0008 => Outline::Frame(FrameTag::Pitch, 0),
-        0x0004_0001 => Outline::Frame(FrameTag::Allocate, 4),
-        0x0004_8001 => Outline::Frame(FrameTag::Release, 0),
-        _ => Outline::Other(0),
     }
 }

@@ -1,14 +1,14 @@
 -- Requests that are alike ask for the same.
 use mathlib.Core.Bool.{Bool, true, false, cond}
 use mathlib.Core.List.{List, [], _∷_, map}
-use mathlib.Core.Path.{_≡_, refl, sym, ap, _∙_, subst}
-use Prim.Native.Nat.{ℕ, zero, suc, _+_, _≤_, _<_}
+use mathlib.Core.Path.{_≡_, refl, sym, ap, _∙_}
+use Prim.Native.Nat.{ℕ, zero, suc, _≤_, _<_}
 use native.Mathlib.Omega.{arith}
 use borrow.Author.Tests.{leb-false}
-use lib.Dec.{leb, ltb, eqb}
+use lib.Dec.{ltb, eqb}
 use lib.ListN.{length, take, getD}
 use Rattle.message.proofs.Laws.Reader.{Paired, none, both}
-use Rattle.message.specs.Outcomes.{done, shortRequest}
+use Rattle.message.specs.Outcomes.{done}
 use Rattle.message.specs.Reader.{keptTag, withId}
 use Rattle.message.specs.declared.walk.Ending.{Ending}
 use Rattle.message.specs.declared.walk.Tag.{Tag}
@@ -19,7 +19,7 @@ use Rattle.responder.specs.Answers.{Said, silent, says}
 use Rattle.responder.specs.Requests.{Request, passed, short, asks, valueOf, isResponse, requestBytes, requestBy, requestOf, Trail, cutBy, cut}
 use Rattle.demands.specs.Longer.{SameRequest, Alike}
 use Rattle.demands.specs.ReadingBack.{noTag}
-use Rattle.demands.specs.Walked.{tagAfter, tagsAfter}
+use Rattle.demands.specs.Walked.{tagsAfter}
 
 -- ---- one pair
 request-pair : (m m′ : List ℕ) (t t′ : Tag) → t .id ≡ t′ .id → t .word ≡ t′ .word → SameRequest m m′ t t′ → (requestOf m t ≡ short → ⊥) → (requestOf m′ t′ ≡ short → ⊥) → requestOf m t ≡ requestOf m′ t′

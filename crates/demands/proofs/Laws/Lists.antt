@@ -1,22 +1,22 @@
 -- What the lister gives of a message that holds adds up to its end word.
 use mathlib.Core.List.{List, [], _∷_, _++_}
-use mathlib.Core.Path.{_≡_, refl, sym, ap, _∙_, subst}
+use mathlib.Core.Path.{_≡_, refl, sym, ap, _∙_}
 use Prim.Native.Nat.{ℕ, zero, suc, _+_, _-_, _≤_, _<_}
 use native.Mathlib.Omega.{arith}
 use lib.ListN.{length, take, drop, getD}
 use Rattle.words.specs.Numbers.{word}
 use Rattle.words.specs.Put.{zeros}
-use Rattle.message.proofs.Laws.Opening.{GoodSize, opened-good}
+use Rattle.message.proofs.Laws.Opening.{opened-good}
 use Rattle.message.proofs.Laws.Steps.{step-end}
 use Rattle.message.proofs.Laws.Walks.{walk-tag, walk-end}
-use Rattle.message.specs.Lister.{listed, listedOf, unlisted, missing, shown, nth}
+use Rattle.message.specs.Lister.{listed, listedOf, unlisted, missing, nth}
 use Rattle.message.specs.Outcomes.{done, noSuchTag}
-use Rattle.message.specs.Sizes.{header, tagHeader}
+use Rattle.message.specs.Sizes.{header}
 use Rattle.message.specs.Walk.{tagEnd, step, walkFrom}
 use Rattle.message.specs.declared.lister.Listed.{Listed}
 use Rattle.message.specs.declared.walk.Step.{Step}
 use Rattle.demands.proofs.Laws.Runs.{Whole}
-use Rattle.demands.proofs.Laws.Tags.{Fine, bytesOf, Holds, holds-le, finds, value-is}
+use Rattle.demands.proofs.Laws.Tags.{Holds, holds-le, finds, value-is}
 use Rattle.demands.specs.Listing.{Add, none, Shows, Lists}
 
 -- the i-th tag from p on is the add a

@@ -1,28 +1,26 @@
 -- What the reader finds in a message into which answers were written.
-use mathlib.Core.Bool.{Bool, true, false, cond}
+use mathlib.Core.Bool.{Bool, true, false}
 use mathlib.Core.List.{List, [], _∷_}
 use mathlib.Core.Path.{_≡_, refl, sym, ap, _∙_, subst}
-use Prim.Native.Nat.{ℕ, zero, suc, _+_, _%_, _^_, _≤_, _<_, min}
+use Prim.Native.Nat.{ℕ, zero, suc, _+_, _^_, _≤_, _<_, min}
 use native.Mathlib.Omega.{arith}
 use borrow.Author.Tests.{eq-eqb}
 use lib.Dec.{eqb}
 use lib.ListN.{length, take, drop, getD, length-take}
 use lib.Seq.{take-take}
 use Rattle.words.proofs.Laws.Agree.{part-before}
-use Rattle.words.specs.Numbers.{word}
-use Rattle.message.proofs.Laws.Reader.{Nth, judged-not-answered, judged-fewer, judged-done}
-use Rattle.message.proofs.Laws.Steps.{Found, found}
-use Rattle.message.specs.Outcomes.{done, notAnswered, fewerStored}
+use Rattle.message.proofs.Laws.Reader.{Nth, judged-fewer, judged-done}
+use Rattle.message.proofs.Laws.Steps.{found}
+use Rattle.message.specs.Outcomes.{done, fewerStored}
 use Rattle.message.specs.Reader.{unread, keptTag, withId, judged, answerLength, stored}
 use Rattle.message.specs.Sizes.{tagHeader}
-use Rattle.message.specs.declared.reader.Reading.{Reading}
 use Rattle.message.specs.declared.walk.Ending.{Ending}
 use Rattle.message.specs.declared.walk.Tag.{Tag}
 use Rattle.tags.specs.Reply.{answered}
 use Rattle.responder.specs.Answers.{Said, silent, says}
-use Rattle.responder.specs.Reply.{written, writeAll}
-use Rattle.demands.proofs.Laws.Follows.{Follows, follows-same}
-use Rattle.demands.proofs.Laws.Rewritten.{Short, answered-length, answered-behind, answered-value, writes-before}
+use Rattle.responder.specs.Reply.{writeAll}
+use Rattle.responder.proofs.Laws.Follows.{Follows, follows-same}
+use Rattle.responder.proofs.Laws.Written.{answered-length, answered-behind, answered-value, writes-before}
 use Rattle.demands.specs.ReadingBack.{noTag}
 use Rattle.demands.specs.Walked.{tagAfter, tagsAfter}
 

@@ -2,7 +2,7 @@
 use mathlib.Core.Bool.{Bool, true, false, cond}
 use mathlib.Core.List.{List}
 use mathlib.Core.Logic.{_⊎_, inl, inr}
-use mathlib.Core.Path.{_≡_, refl, sym, ap, _∙_}
+use mathlib.Core.Path.{_≡_, refl, sym, _∙_}
 use Prim.Native.Nat.{ℕ}
 use native.Mathlib.Omega.{arith}
 use lib.Dec.{eqb, ltb}
@@ -16,7 +16,7 @@ use Rattle.message.specs.declared.opening.Message.{Message}
 use Rattle.message.specs.declared.opening.Opened.{Opened}
 use Rattle.board.specs.Valid.{valid}
 use Rattle.board.specs.declared.record.Board.{Board}
-use Rattle.responder.specs.Reply.{served, codedIf, openedIf, validIf, reply}
+use Rattle.responder.specs.Reply.{served, reply}
 
 abbrev pub Refusal : ℕ → Type 0
 Refusal n = (n ≡ tooFewLent) ⊎ ((n ≡ badSize) ⊎ ((n ≡ notRequest) ⊎ (n ≡ invalidBoard)))

@@ -2,28 +2,24 @@
 use mathlib.Core.Bool.{Bool, true, false}
 use mathlib.Core.List.{List, [], _∷_, _++_}
 use mathlib.Core.Path.{_≡_, refl, sym, ap, _∙_, subst}
-use Prim.Native.Nat.{ℕ, zero, suc, _+_, _-_, _%_, _^_, _≤_, _<_}
+use Prim.Native.Nat.{ℕ, _+_, _-_, _^_, _<_}
 use native.Mathlib.Omega.{arith}
-use borrow.Author.Tests.{eqb-true, eqb-false, eq-eqb, ne-eqb}
+use borrow.Author.Tests.{eqb-true, eqb-false, ne-eqb}
 use lib.Dec.{eqb}
 use lib.ListN.{length, take, drop}
-use Rattle.words.proofs.Laws.Agree.{drop-later, take-earlier, part-before, number-behind, number-before}
+use Rattle.words.proofs.Laws.Agree.{take-earlier, part-before, number-behind, number-before}
 use Rattle.words.proofs.Laws.Put.{length-put, drop-put, take-put, read-put, number-put, put-behind}
-use Rattle.words.specs.Numbers.{le, numberAt, word}
+use Rattle.words.specs.Numbers.{le, word}
 use Rattle.words.specs.Put.{put, zeros}
-use Rattle.words.specs.Round.{roundUp}
-use Rattle.message.proofs.Laws.Builder.{Taken, taken, add-refused, add-done, Closed, Accepted, accepted}
+use Rattle.message.proofs.Laws.Builder.{taken, add-refused, add-done, accepted}
 use Rattle.message.proofs.Laws.Opening.{GoodSize}
-use Rattle.message.proofs.Laws.Steps.{step-end}
-use Rattle.message.specs.Builder.{Call, addOutcome, finishOutcome, added, addedIf, finished, finishedIf, closed, finishedSize, tagBytes, room}
+use Rattle.message.specs.Builder.{Call, addOutcome, finished, closed, finishedSize}
 use Rattle.message.specs.Outcomes.{done}
 use Rattle.message.specs.Sizes.{header, endWord, codePlace}
-use Rattle.message.specs.Walk.{tagEnd, step}
+use Rattle.message.specs.Walk.{tagEnd}
 use Rattle.message.specs.declared.builder.Built.{Built}
 use Rattle.message.specs.declared.builder.Cursor.{Cursor}
-use Rattle.message.specs.declared.builder.Finished.{Finished}
-use Rattle.message.specs.declared.walk.Step.{Step}
-use Rattle.demands.proofs.Laws.Tags.{Fine, bytesOf, length-tag, Holds, holds-le, holds-before, holds-behind}
+use Rattle.demands.proofs.Laws.Tags.{Fine, bytesOf, length-tag, Holds, holds-before, holds-behind}
 use Rattle.demands.specs.Listing.{Add, Run, keptIf, addAll, Words}
 
 -- ---- a run leaves what stands before its cursor, and holds the adds that were taken from there on

@@ -1,13 +1,13 @@
 -- Adds that stand in a message one behind the other.
 use mathlib.Core.List.{List, [], _∷_, _++_}
-use mathlib.Core.Path.{_≡_, refl, sym, ap, _∙_, subst}
+use mathlib.Core.Path.{_≡_, refl, sym, ap, _∙_}
 use Prim.Native.Nat.{ℕ, zero, suc, _+_, _-_, _^_, _≤_, _<_}
 use native.Mathlib.Omega.{arith}
 use lib.ListN.{length, take, drop, length-append, length-replicate}
 use lib.Seq.{drop-drop, take-append-add}
 use Rattle.words.proofs.Laws.Agree.{drop-later, part-before, number-part, part-of}
-use Rattle.words.proofs.Laws.Numbers.{length-le, unle-le}
-use Rattle.words.specs.Numbers.{le, unle, numberAt, word}
+use Rattle.words.proofs.Laws.Numbers.{unle-le}
+use Rattle.words.specs.Numbers.{unle, numberAt, word}
 use Rattle.words.specs.Put.{zeros}
 use Rattle.words.specs.Round.{roundUp}
 use Rattle.message.proofs.Laws.Steps.{step-tag}

@@ -2,25 +2,22 @@
 use mathlib.Core.Bool.{Bool, true, false, cond, _&&_, _||_, and-eq-true-iff}
 use mathlib.Core.List.{List, _++_}
 use mathlib.Core.Path.{_≡_, refl, sym, ap, _∙_}
-use Prim.Native.Nat.{ℕ, _+_, _-_, _%_, _^_, _≤_, _<_, min}
+use Prim.Native.Nat.{ℕ, _+_, _-_, _%_, _^_, _≤_, _<_}
 use native.Mathlib.Omega.{arith}
-use borrow.Author.Tests.{eq-eqb, ne-eqb, lt-ltb, le-ltb, le-leb, leb-true, eqb-true, eqb-false, ltb-false}
+use borrow.Author.Tests.{eq-eqb, ne-eqb, lt-ltb, le-ltb, leb-true, eqb-true, eqb-false, ltb-false}
 use borrow.Rule.Slice.PartMut.{putMid}
 use lib.Dec.{ltb, leb, eqb}
-use lib.ListN.{length, take, drop, length-append, length-replicate}
-use Rattle.words.proofs.Laws.Numbers.{length-le}
+use lib.ListN.{length, take, drop, length-append}
 use Rattle.words.proofs.Laws.Parts.{put-stored, put-cleared}
 use Rattle.words.proofs.Laws.Put.{put-behind, length-put}
 use Rattle.words.specs.Numbers.{le}
 use Rattle.words.specs.Put.{put, over, zeros}
 use Rattle.words.specs.Round.{roundUp}
-use Rattle.message.specs.Builder.{room, goodCursor, finishedSize, startOutcome, addOutcome, finishOutcome, tagBytes, closed, Call, leaves, built, startedIf, started, addedIf, added, finishedIf, finished, TagFits, EndFits}
+use Rattle.message.specs.Builder.{room, goodCursor, finishedSize, startOutcome, addOutcome, finishOutcome, tagBytes, closed, leaves, built, startedIf, started, added, finishedIf, finished, TagFits, EndFits}
 use Rattle.message.specs.Outcomes.{done, noRoom, badTag, badCursor}
 use Rattle.message.specs.Sizes.{header, tagHeader, endWord, codePlace, largest}
 use Rattle.message.specs.Walk.{sizePlace, wordPlace, tagEnd}
-use Rattle.message.specs.declared.builder.Built.{Built}
 use Rattle.message.specs.declared.builder.Cursor.{Cursor}
-use Rattle.message.specs.declared.builder.Finished.{Finished}
 
 -- ---- a good cursor
 pub record GoodCursor (at room : ℕ) : Type 0 where

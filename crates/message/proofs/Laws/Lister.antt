@@ -1,19 +1,18 @@
 -- The loop of the lister.
 use mathlib.Core.List.{List, [], _∷_}
 use mathlib.Core.Path.{_≡_, refl, sym, ap, _∙_}
-use Prim.Native.Nat.{ℕ, zero, suc, _+_, _-_, _≤_, _<_}
+use Prim.Native.Nat.{ℕ, zero, suc, _-_, _≤_, _<_}
 use native.Mathlib.Numerals.{sub-one}
 use native.Mathlib.Omega.{arith}
 use denote.Enum.Declared.{tagOf}
 use types.Run.{OneOf}
-use Rattle.message.proofs.Laws.Opening.{opened-walking}
 use Rattle.message.proofs.Laws.Steps.{Found, found, walking-on}
 use Rattle.message.proofs.Laws.Walks.{walk-tag, walk-stop}
 use Rattle.message.proofs.walk.Step
-use Rattle.message.specs.Lister.{unlisted, missing, shown, nth, listedOf, listed}
+use Rattle.message.specs.Lister.{unlisted, missing, shown, nth, listed}
 use Rattle.message.specs.Opening.{opened}
 use Rattle.message.specs.Sizes.{header, largest}
-use Rattle.message.specs.Walk.{Walk, step, endingOf, stopped, more, walkFrom, Walking}
+use Rattle.message.specs.Walk.{Walk, step, endingOf, more, walkFrom, Walking}
 use Rattle.message.specs.declared.lister.Listed.{Listed}
 use Rattle.message.specs.declared.opening.Message.{Message}
 use Rattle.message.specs.declared.opening.Opened.{Opened}

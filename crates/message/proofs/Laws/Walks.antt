@@ -1,12 +1,12 @@
 -- The walk, step by step.
 use mathlib.Core.List.{List, [], _∷_}
 use mathlib.Core.Logic.{⊎-elim}
-use mathlib.Core.Path.{_≡_, refl, sym, ap, _∙_}
-use Prim.Native.Nat.{ℕ, zero, suc, _+_, _≤_, _<_}
+use mathlib.Core.Path.{_≡_, refl, ap}
+use Prim.Native.Nat.{ℕ, zero, suc, _+_, _<_}
 use native.Mathlib.Omega.{arith}
 use denote.Enum.Declared.{tagOf}
 use types.Run.{OneOf}
-use Rattle.message.proofs.Laws.Steps.{Found, found}
+use Rattle.message.proofs.Laws.Steps.{found}
 use Rattle.message.proofs.walk.Step
 use Rattle.message.specs.Walk.{step, stopped, more, walk, walkFrom}
 use Rattle.message.specs.declared.walk.Step.{Step}

@@ -1,24 +1,24 @@
 -- What a tag asks, case by case.
-use mathlib.Core.Bool.{Bool, true, false, cond}
-use mathlib.Core.List.{List, [], _∷_}
+use mathlib.Core.Bool.{false}
+use mathlib.Core.List.{List}
 use mathlib.Core.Path.{_≡_, refl, sym, ap, _∙_}
 use Prim.Native.Nat.{ℕ, _+_, _-_, _%_, _≤_, _<_}
 use native.Mathlib.Omega.{arith}
 use borrow.Author.Tests.{le-leb, lt-leb, lt-ltb, le-ltb}
 use lib.ListN.{length, take, drop, length-take, drop-of-length-le}
-use lib.Seq.{take-take, take-nil, drop-nil}
+use lib.Seq.{take-take}
 use Rattle.words.proofs.Laws.Agree.{number-part}
 use Rattle.words.specs.Numbers.{numberAt, word}
 use Rattle.message.specs.Sizes.{tagHeader}
 use Rattle.message.specs.declared.walk.Tag.{Tag}
-use Rattle.tags.proofs.Laws.Rows.{Words, row-words}
+use Rattle.tags.proofs.Laws.Rows.{row-words}
 use Rattle.tags.specs.Place.{placeOf, Placed}
 use Rattle.tags.specs.Table.{rowOf}
 use Rattle.tags.specs.declared.place.Place.{Place}
 use Rattle.tags.specs.declared.table.Kind.{Kind}
 use Rattle.tags.specs.declared.table.Row.{Row}
 use Rattle.responder.specs.Ask.{kindAsk, askOf, Within, Named, InMessage, RequestFits}
-use Rattle.responder.specs.Requests.{Request, passed, short, asks, requestBy, requestOf, valueOf}
+use Rattle.responder.specs.Requests.{requestBy, requestOf, valueOf}
 use Rattle.responder.specs.declared.ask.Ask.{Ask}
 
 -- ---- an item's ask, by its place

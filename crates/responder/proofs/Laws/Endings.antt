@@ -2,8 +2,8 @@
 use mathlib.Core.Bool.{Bool, true, false}
 use mathlib.Core.List.{List, [], _∷_}
 use mathlib.Core.Logic.{_⊎_, inl, inr}
-use mathlib.Core.Path.{_≡_, refl, sym, ap, _∙_}
-use Prim.Native.Nat.{ℕ, zero, suc, _+_}
+use mathlib.Core.Path.{_≡_, refl}
+use Prim.Native.Nat.{ℕ, zero, suc}
 use lib.Dec.{eqb}
 use Rattle.words.specs.Numbers.{word}
 use Rattle.message.specs.Outcomes.{done, noEnd, runsOver, shortRequest}
@@ -11,7 +11,7 @@ use Rattle.message.specs.Walk.{tagAt, overruns, stepOf, step, endingOf, walk, w
 use Rattle.message.specs.declared.walk.Ending.{Ending}
 use Rattle.message.specs.declared.walk.Step.{Step}
 use Rattle.message.specs.declared.walk.Tag.{Tag}
-use Rattle.responder.specs.Requests.{Request, passed, short, asks, requestOf, Trail, cutBy, cut, trail}
+use Rattle.responder.specs.Requests.{Request, passed, short, asks, requestOf, cutBy, cut, trail}
 
 abbrev pub Known : ℕ → Type 0
 Known n = (n ≡ done) ⊎ ((n ≡ noEnd) ⊎ ((n ≡ runsOver) ⊎ (n ≡ shortRequest)))

@@ -1,53 +1,32 @@
 -- The responder, case by case.
-use mathlib.Core.Bool.{Bool, true, false, not, cond}
+use mathlib.Core.Bool.{Bool, true, false, not}
 use mathlib.Core.List.{List}
-use mathlib.Core.Path.{_≡_, refl, sym, ap, _∙_}
+use mathlib.Core.Path.{_≡_, sym, _∙_}
 use Prim.Native.Nat.{ℕ, _+_, _≤_}
 use native.Mathlib.Omega.{arith}
 use borrow.Author.Tests.{eq-eqb, ne-eqb, not-true, not-false}
-use lib.Dec.{eqb}
 use lib.ListN.{length}
 use Rattle.words.specs.Numbers.{le, word}
 use Rattle.words.specs.Put.{put}
 use Rattle.message.proofs.Laws.Opening.{opened-walking}
-use Rattle.message.specs.Builder.{Call, leaves}
+use Rattle.message.specs.Builder.{leaves}
 use Rattle.message.specs.Opening.{opened}
-use Rattle.message.specs.Outcomes.{done, notRequest, invalidBoard}
+use Rattle.message.specs.Outcomes.{notRequest, invalidBoard}
 use Rattle.message.specs.Sizes.{header, codePlace}
 use Rattle.message.specs.Walk.{Walking}
 use Rattle.message.specs.declared.opening.Message.{Message}
 use Rattle.message.specs.declared.opening.Opened.{Opened}
-use Rattle.board.proofs.Laws.Valid.{Parts, valid-parts}
-use Rattle.board.specs.Valid.{valid, validDisplay}
+use Rattle.board.specs.Valid.{valid}
 use Rattle.board.specs.declared.record.Board.{Board}
-use Rattle.display.specs.Operation.{unasked}
-use Rattle.display.specs.declared.decision.Decision.{Decision}
-use Rattle.responder.specs.Answers.{groupBy, groupOf}
-use Rattle.responder.specs.Reply.{codeOf, refused, withDisplay, servedBy, served, codedIf, openedIf, validIf, reply}
-use Rattle.responder.specs.Requests.{Trail, trail}
-use Rattle.responder.specs.Scan.{seenOf}
+use Rattle.responder.specs.Reply.{codeOf, served, openedIf, reply}
 use Rattle.responder.specs.Serve.{Carried}
 use Rattle.responder.specs.declared.respond.Served.{Served}
-use Rattle.responder.specs.declared.scan.Seen.{Seen}
 
 -- ---- an opened request
-pub display-valid : (b : Board) → valid b ≡ true → validDisplay (b .display) ≡ true
-display-valid b v = valid-parts b v .display
-
-pub served-is : (b : Board) (m : List ℕ) (size : ℕ) {seen : Seen} {g : Decision} {m₁ m₂ : List ℕ} {b₁ : Board} {code : ℕ}
-    → seen ≡ seenOf (unasked (b .display .settings)) (trail m size header)
-    → g ≡ groupBy (eqb (seen .ending .outcome) done) (b .display) (seen .operation)
-    → Carried g m size b m₁ b₁
-    → code ≡ codeOf (seen .ending .outcome)
-    → m₂ ≡ put codePlace (le 4 code) m₁
-    → leaves m₂ (record { outcome = seen .ending .outcome; place = seen .ending .place; board = withDisplay b₁ (g .display) }) ≡ served b m size
-unfolding served groupOf
-served-is b m size {seen} {g} {m₁} {m₂} {b₁} es eg c ec em =
-    let tr = trail m size header in
-    let g₀ = groupOf (b .display) (tr .ending) (tr .requests) in
-    let eg₀ : g ≡ g₀ = eg ∙ ap (λ (x : Seen). groupBy (eqb (x .ending .outcome) done) (b .display) (x .operation)) es in
-    let c₀ : Carried g₀ m size b m₁ b₁ = rw eg₀ at c in
-    rw (em, ec, es, eg₀, c₀ .bytes, c₀ .board)
+pub served-is : (b : Board) (m : List ℕ) (size : ℕ) {m₁ m₂ : List ℕ} {r : Served} {code : ℕ} → Carried m size b m₁ r → code ≡ codeOf (r .outcome) → m₂ ≡ put codePlace (le 4 code) m₁
+    → leaves m₂ r ≡ served b m size
+unfolding served
+served-is b m size c ec em = rw (em, ec, c .result, c .bytes)
 
 -- ---- any record and any bytes
 module _ (b : Board) (m : List ℕ) {v : Bool} (ev : v ≡ valid b) where

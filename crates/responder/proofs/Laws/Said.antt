@@ -1,17 +1,12 @@
 -- What a request comes to is what its ask comes to.
-use mathlib.Core.Bool.{Bool, true, false, cond}
-use mathlib.Core.List.{List, _++_}
-use mathlib.Core.Path.{_≡_, refl, sym, ap, _∙_}
+use mathlib.Core.Path.{_≡_, refl}
 use Prim.Native.Nat.{ℕ}
-use native.Mathlib.Omega.{arith}
-use lib.ListN.{length}
 use Rattle.board.specs.Items.{noDevice, noClock, noVoltage}
 use Rattle.board.specs.declared.record.Board.{Board}
-use Rattle.tags.proofs.Laws.Items.{power-absent, clock-absent, voltage-absent}
 use Rattle.tags.specs.Answer.{answerBytes}
 use Rattle.tags.specs.Clock.{clockPlace, clockAfter, clockValue}
 use Rattle.tags.specs.Outside.{outsideAnswer, outsideAfter, withDevices, withClocks, withVoltages}
-use Rattle.tags.specs.Place.{item, change, placeOf}
+use Rattle.tags.specs.Place.{item, change}
 use Rattle.tags.specs.Power.{devicePlace, powerAfter, powerValue}
 use Rattle.tags.specs.Voltage.{voltagePlace, voltageAfter, voltageValue}
 use Rattle.tags.specs.declared.place.Place.{Place}
@@ -20,8 +15,9 @@ use Rattle.tags.specs.declared.table.Kind.{Kind}
 use Rattle.tags.specs.declared.table.PowerTag.{PowerTag}
 use Rattle.tags.specs.declared.table.VoltageTag.{VoltageTag}
 use Rattle.display.specs.declared.decision.Decision.{Decision}
-use Rattle.responder.specs.Answers.{Said, silent, says, first, second, saidBy, afterBy}
-use Rattle.responder.specs.Ask.{powerAt, clockAt, voltageAt, kindAsk, askOf, saidOf, afterOf, pair}
+use Rattle.display.specs.declared.operation.Operation.{Operation}
+use Rattle.responder.specs.Answers.{first, second, noteBy, saidBy, afterBy}
+use Rattle.responder.specs.Ask.{powerAt, clockAt, voltageAt, kindAsk, askOf, saidOf, afterOf, noteOf, pair}
 use Rattle.responder.specs.Requests.{Request, passed, short, asks}
 use Rattle.responder.specs.declared.ask.Ask.{Ask}
 
@@ -93,6 +89,30 @@ module _ (b : Board) where
   after-line (Ask.Voltage t i a x) = refl
   after-line (Ask.Temperature t a) = refl
   after-line (Ask.Frame t a x) = refl
+
+-- ---- what is noted
+note-power : (t : PowerTag) (a x : ℕ) (o : Operation) (p : Place) → o ≡ noteOf (powerAt t a x p) o
+note-power t a x o (Place.At i) = refl
+note-power t a x o Place.Unlisted = refl
+
+note-clock : (t : ClockTag) (a x : ℕ) (o : Operation) (p : Place) → o ≡ noteOf (clockAt t a x p) o
+note-clock t a x o (Place.At i) = refl
+note-clock t a x o Place.Unlisted = refl
+
+note-voltage : (t : VoltageTag) (a x : ℕ) (o : Operation) (p : Place) → o ≡ noteOf (voltageAt t a x p) o
+note-voltage t a x o (Place.At i) = refl
+note-voltage t a x o Place.Unlisted = refl
+
+pub note-is : (r : Request) (o : Operation) → noteBy r o ≡ noteOf (askOf r) o
+unfolding askOf kindAsk
+note-is passed o = refl
+note-is short o = refl
+note-is (asks (Kind.Fact t) bytes) o = refl
+note-is (asks (Kind.Power t) bytes) o = note-power t (first bytes) (second bytes) o (devicePlace (first bytes))
+note-is (asks (Kind.Clock t) bytes) o = note-clock t (first bytes) (second bytes) o (clockPlace (first bytes))
+note-is (asks (Kind.Voltage t) bytes) o = note-voltage t (first bytes) (second bytes) o (voltagePlace (first bytes))
+note-is (asks (Kind.Temperature t) bytes) o = refl
+note-is (asks (Kind.Frame t) bytes) o = refl
 
 -- only a short request asks so
 pub short-asks : (r : Request) → askOf r ≡ Ask.Short → r ≡ short

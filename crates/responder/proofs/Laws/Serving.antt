@@ -6,15 +6,15 @@ use Prim.Native.Nat.{ℕ, _+_, _-_, _≤_, _<_}
 use native.Mathlib.Omega.{arith}
 use denote.Enum.Declared.{tagOf}
 use types.Run.{OneOf}
-use lib.ListN.{length, take, drop, getD, set, length-take}
+use lib.ListN.{length, drop, getD, set}
 use Rattle.words.proofs.Laws.Agree.{drop-later}
-use Rattle.words.proofs.Laws.Put.{length-put, drop-put}
 use Rattle.words.specs.Numbers.{le}
-use Rattle.words.specs.Put.{put}
 use Rattle.message.proofs.Laws.Steps.{Found, found, walking-on, step-same}
 use Rattle.message.proofs.walk.Step
-use Rattle.message.specs.Sizes.{header, tagHeader}
-use Rattle.message.specs.Walk.{step, endingOf, Walking, wordPlace}
+use Rattle.message.specs.Outcomes.{shortRequest}
+use Rattle.message.specs.Sizes.{header}
+use Rattle.message.specs.Walk.{step, endingOf, Walking}
+use Rattle.message.specs.declared.walk.Ending.{Ending}
 use Rattle.message.specs.declared.walk.Step.{Step}
 use Rattle.message.specs.declared.walk.Tag.{Tag}
 use Rattle.board.specs.Items.{noDevice, noClock, noVoltage}
@@ -38,61 +38,77 @@ use Rattle.tags.specs.declared.table.PowerTag.{PowerTag}
 use Rattle.tags.specs.declared.table.TemperatureTag.{TemperatureTag}
 use Rattle.tags.specs.declared.table.VoltageTag.{VoltageTag}
 use Rattle.display.specs.Decision.{groupAnswer}
+use Rattle.display.specs.Operation.{unasked, noted}
 use Rattle.display.specs.declared.decision.Decision.{Decision}
-use Rattle.responder.proofs.Laws.Said.{said-is, after-is, after-line, short-asks}
+use Rattle.display.specs.declared.operation.Operation.{Operation}
+use Rattle.responder.proofs.Laws.Said.{said-is, after-is, note-is, after-line, short-asks}
 use Rattle.responder.proofs.Laws.Trails.{trail-stop, trail-tag, request-same, cut-on, in-message}
-use Rattle.responder.specs.Answers.{Said, silent, says, saidBy, afterBy, answers, after}
-use Rattle.responder.specs.Ask.{askOf, Named, InMessage, Within, pair, saidOf, afterOf}
-use Rattle.responder.specs.Reply.{written, writeAll}
-use Rattle.responder.specs.Requests.{Request, passed, short, asks, requestOf, Trail, ends, goesOn, cutBy, trail}
-use Rattle.responder.specs.Serve.{bytesOf, Carried}
+use Rattle.responder.proofs.Laws.Written.{written-length, written-behind}
+use Rattle.responder.specs.Answers.{silent, says, noteBy, operation, saidBy, afterBy, after}
+use Rattle.responder.specs.Ask.{askOf, Named, InMessage, saidOf, afterOf, noteOf}
+use Rattle.responder.specs.Reply.{written}
+use Rattle.responder.specs.Requests.{Request, short, requestOf, Trail, ends, goesOn, cutBy, trail}
+use Rattle.responder.specs.Serve.{bytesOf}
 use Rattle.responder.specs.declared.ask.Ask.{Ask}
 
--- ---- what a tag says is written before the next
-record Kept (next : ℕ) (m m′ : List ℕ) : Type 0 where
-  pub same : length m′ ≡ length m
-  pub rest : drop next m′ ≡ drop next m
+-- ---- one walk
+-- what a walk with the group g has left, and found: the message, the record, how it ends; and where the group is not answered, its operation
+pub record Walked (g : Decision) (m₀ : List ℕ) (size : ℕ) (b₀ : Board) (m : List ℕ) (b : Board) (o : Operation) (e : Ending) : Type 0 where
+  pub bytes : m ≡ bytesOf g b₀ (trail m₀ size header) m₀
+  pub board : b ≡ after b₀ (trail m₀ size header .requests)
+  pub ending : e ≡ trail m₀ size header .ending
+  pub noted : g .answered ≡ false → o ≡ operation (unasked (b₀ .display .settings)) (trail m₀ size header .requests)
 
-answered-kept : (at size next : ℕ) (answer m : List ℕ) → at + tagHeader + size ≤ next → Kept next m (answered at size answer m)
-unfolding answered
-answered-kept at size next answer m h =
-    let word = le 4 (0x8000_0000 + length answer) in
-    let m₁ = put (at + wordPlace) word m in
-    let l : length (take size answer) ≤ size = simp length-take (omega arith) in
-    record {
-      same = length-put (at + tagHeader) (take size answer) m₁ ∙ length-put (at + wordPlace) word m;
-      rest = drop-put (at + tagHeader) (take size answer) m₁ next (omega arith) ∙ drop-put (at + wordPlace) word m next (omega arith);
-    }
-
-written-kept : (t : Tag) (s : Said) (next : ℕ) (m : List ℕ) → t .at + tagHeader + t .size ≤ next → Kept next m (written t s m)
-written-kept t silent next m h = record { same = refl; rest = refl }
-written-kept t (says answer) next m h = answered-kept (t .at) (t .size) next answer m h
-
--- ---- the loop
-pub record Serving (g : Decision) (m₀ : List ℕ) (size : ℕ) (b₀ : Board) (m : List ℕ) (b : Board) (p : ℕ) : Type 0 where
+pub record Serving (g : Decision) (m₀ : List ℕ) (size : ℕ) (b₀ : Board) (m : List ℕ) (b : Board) (o : Operation) (p : ℕ) : Type 0 where
   pub walking : Walking m size p
   pub same : length m ≡ length m₀
   pub rest : drop p m ≡ drop p m₀
   pub bytes : bytesOf g b (trail m₀ size p) m ≡ bytesOf g b₀ (trail m₀ size header) m₀
   pub board : after b (trail m₀ size p .requests) ≡ after b₀ (trail m₀ size header .requests)
+  pub ending : trail m₀ size p .ending ≡ trail m₀ size header .ending
+  pub noted : g .answered ≡ false → operation o (trail m₀ size p .requests) ≡ operation (unasked (b₀ .display .settings)) (trail m₀ size header .requests)
   pub line : length (b .line) ≤ 256
 
-pub serve-start : (g : Decision) (m₀ : List ℕ) (size : ℕ) (b₀ : Board) → Walking m₀ size header → length (b₀ .line) ≤ 256 → Serving g m₀ size b₀ m₀ b₀ header
-serve-start g m₀ size b₀ w l = record { walking = w; same = refl; rest = refl; bytes = refl; board = refl; line = l }
+pub again-start : (g : Decision) (m₀ : List ℕ) (size : ℕ) (b₀ : Board) {o : Operation} → g .answered ≡ true → Walking m₀ size header → length (b₀ .line) ≤ 256 → Serving g m₀ size b₀ m₀ b₀ o header
+again-start g m₀ size b₀ y w l = record {
+  walking = w;
+  same = refl;
+  rest = refl;
+  bytes = refl;
+  board = refl;
+  ending = refl;
+  noted = λ n. let c : true ≡ false = sym y ∙ n in let d : _≡_ {A = ℕ} 0 1 = cc in absurd (omega arith);
+  line = l;
+}
 
-module _ (g : Decision) (m₀ : List ℕ) (size : ℕ) (b₀ : Board) (m : List ℕ) (b : Board) (p : ℕ) (h : Serving g m₀ size b₀ m b p) {st : Step} (es : st ≡ step m size p) where
+pub serve-start : (g : Decision) (m₀ : List ℕ) (size : ℕ) (b₀ : Board) {o : Operation} → Walking m₀ size header → o ≡ unasked (b₀ .display .settings) → length (b₀ .line) ≤ 256
+    → Serving g m₀ size b₀ m₀ b₀ o header
+serve-start g m₀ size b₀ w e l = record {
+  walking = w;
+  same = refl;
+  rest = refl;
+  bytes = refl;
+  board = refl;
+  ending = refl;
+  noted = λ a. ap (λ (x : Operation). operation x (trail m₀ size header .requests)) e;
+  line = l;
+}
+
+module _ (g : Decision) (m₀ : List ℕ) (size : ℕ) (b₀ : Board) (m : List ℕ) (b : Board) (o : Operation) (p : ℕ) (h : Serving g m₀ size b₀ m b o p) {st : Step} (es : st ≡ step m size p) where
   es₀ : step m₀ size p ≡ st
   es₀ = sym (step-same m m₀ size p (h .rest)) ∙ sym es
 
   -- where the trail ends, all is written
-  ends-here : {tr : Trail} → trail m₀ size p ≡ tr → tr .requests ≡ [] → tr .tags ≡ [] → Carried g m₀ size b₀ m b
-  ends-here {tr} e er et = record {
-    bytes = sym (ap (λ (x : List Tag). writeAll x (answers g b (tr .requests)) m) et) ∙ ap (λ (x : Trail). bytesOf g b x m) (sym e) ∙ h .bytes;
-    board = sym (ap (after b) er) ∙ ap (λ (x : Trail). after b (x .requests)) (sym e) ∙ h .board;
+  ends-here : {e : Ending} → trail m₀ size p ≡ ends e → Walked g m₀ size b₀ m b o e
+  ends-here e = record {
+    bytes = ap (λ (x : Trail). bytesOf g b x m) (sym e) ∙ h .bytes;
+    board = ap (λ (x : Trail). after b (x .requests)) (sym e) ∙ h .board;
+    ending = ap (λ (x : Trail). x .ending) (sym e) ∙ h .ending;
+    noted = λ a. ap (λ (x : Trail). operation o (x .requests)) (sym e) ∙ h .noted a;
   }
 
-  pub serve-stop : OneOf (1 ∷ 2 ∷ []) (tagOf Step.the-type st) → Carried g m₀ size b₀ m b
-  serve-stop k = ends-here (trail-stop m₀ size p st k es₀) refl refl
+  pub serve-stop : OneOf (1 ∷ 2 ∷ []) (tagOf Step.the-type st) → {e : Ending} → e ≡ endingOf st → Walked g m₀ size b₀ m b o e
+  serve-stop k ee = ends-here (trail-stop m₀ size p st k es₀ ∙ ap ends (sym ee))
 
   module _ {t : Tag} {next : ℕ} (et : st ≡ Step.Tag t next) where
     here : Found m size p t next
@@ -117,29 +133,36 @@ module _ (g : Decision) (m₀ : List ℕ) (size : ℕ) (b₀ : Board) (m : List 
       q₀ : q ≡ askOf (requestOf m₀ t)
       q₀ = nq .is ∙ ap askOf request₀
 
-      pub serve-short : q ≡ Ask.Short → Carried g m₀ size b₀ m b
+      pub serve-short : q ≡ Ask.Short → Walked g m₀ size b₀ m b o (record { outcome = shortRequest; place = p })
       serve-short e =
+          let f = here in
           let r : requestOf m₀ t ≡ short = short-asks (requestOf m₀ t) (sym q₀ ∙ e) in
-          ends-here (trail-tag m₀ size p (es₀ ∙ et) ∙ ap (λ (x : Request). cutBy x t (trail m₀ size next)) r) refl refl
+          ends-here (trail-tag m₀ size p (es₀ ∙ et) ∙ ap (λ (x : Request). cutBy x t (trail m₀ size next)) r ∙ ap (λ (x : ℕ). ends (record { outcome = shortRequest; place = x })) (f .at))
 
-      serve-on : (q ≡ Ask.Short → ⊥) → {m′ : List ℕ} {b′ : Board} → m′ ≡ written t (saidOf g b q) m → b′ ≡ afterOf b q → Serving g m₀ size b₀ m′ b′ next
+      serve-on : (q ≡ Ask.Short → ⊥) → {m′ : List ℕ} {b′ : Board} {o′ : Operation} → m′ ≡ written t (saidOf g b q) m → b′ ≡ afterOf b q → (g .answered ≡ false → o′ ≡ noteOf q o)
+          → Serving g m₀ size b₀ m′ b′ o′ next
       unfolding askOf
-      serve-on n {m′} {b′} em eb =
+      serve-on n {m′} {b′} {o′} em eb eo =
           let f = here in
           let w = h .walking in
           let r = requestOf m₀ t in
           let tr : trail m₀ size p ≡ goesOn t r (trail m₀ size next) =
           trail-tag m₀ size p (es₀ ∙ et) ∙ cut-on r t (trail m₀ size next) (λ z. n (q₀ ∙ ap askOf z)) in
-          let k : Kept next m m′ = rw (← em) at (written-kept t (saidOf g b q) next m (omega arith)) in
+          let same : length m′ ≡ length m = ap length em ∙ written-length t (saidOf g b q) m in
+          let behind : drop next m′ ≡ drop next m = ap (drop next) em ∙ written-behind t (saidOf g b q) m next (omega arith) in
           let s : saidOf g b q ≡ saidBy g b r = ap (saidOf g b) q₀ ∙ sym (said-is g b r) in
           let a : b′ ≡ afterBy b r = eb ∙ ap (afterOf b) q₀ ∙ sym (after-is b r) in
           let l : length (b′ .line) ≡ length (b .line) = ap (λ (x : Board). length (x .line)) eb ∙ ap length (after-line b q) in
           record {
-            walking = walking-on m m′ size p w f (k .same);
-            same = k .same ∙ h .same;
-            rest = k .rest ∙ drop-later p next m m₀ (omega arith) (h .rest);
+            walking = walking-on m m′ size p w f same;
+            same = same ∙ h .same;
+            rest = behind ∙ drop-later p next m m₀ (omega arith) (h .rest);
             bytes = rw (em, s, a) (ap (λ (x : Trail). bytesOf g b x m) (sym tr) ∙ h .bytes);
             board = rw a (ap (λ (x : Trail). after b (x .requests)) (sym tr) ∙ h .board);
+            ending = ap (λ (x : Trail). x .ending) (sym tr) ∙ h .ending;
+            noted = λ z.
+                let d : o′ ≡ noteBy r o = eo z ∙ ap (λ (x : Ask). noteOf x o) q₀ ∙ sym (note-is r o) in
+                rw d (ap (λ (x : Trail). operation o (x .requests)) (sym tr) ∙ h .noted z);
             line = omega arith;
           }
 
@@ -147,49 +170,49 @@ module _ (g : Decision) (m₀ : List ℕ) (size : ℕ) (b₀ : Board) (m : List 
       not-short : {x : Ask} → q ≡ x → (x ≡ Ask.Short → ⊥) → q ≡ Ask.Short → ⊥
       not-short e n z = n (sym e ∙ z)
 
-      pub serve-pass : q ≡ Ask.Pass → Serving g m₀ size b₀ m b next
+      pub serve-pass : q ≡ Ask.Pass → Serving g m₀ size b₀ m b o next
       unfolding saidOf afterOf
-      serve-pass e = serve-on (not-short e (λ z. let c : _≡_ {A = ℕ} 0 1 = cc in omega arith)) (rw e) (rw e)
+      serve-pass e = serve-on (not-short e (λ z. let c : _≡_ {A = ℕ} 0 1 = cc in omega arith)) (rw e) (rw e) (λ z. rw e)
 
       module _ {m′ : List ℕ} {a n : ℕ} (em : m′ ≡ answered (t .at) (t .size) (le 4 a ++ le 4 n) m) where
-        pub serve-fixed : q ≡ Ask.Fixed a n → Serving g m₀ size b₀ m′ b next
+        pub serve-fixed : q ≡ Ask.Fixed a n → Serving g m₀ size b₀ m′ b o next
         unfolding saidOf afterOf
-        serve-fixed e = serve-on (not-short e (λ z. let c : _≡_ {A = ℕ} 0 1 = cc in omega arith)) (rw e em) (rw e)
+        serve-fixed e = serve-on (not-short e (λ z. let c : _≡_ {A = ℕ} 0 1 = cc in omega arith)) (rw e em) (rw e) (λ z. rw e)
 
         pub serve-power : {k : PowerTag} {i x : ℕ} {d : Device} → q ≡ Ask.Power k i a x → d ≡ powerAfter k x (getD (b .devices) i noDevice) → n ≡ powerValue k d
-            → Serving g m₀ size b₀ m′ (withDevices b (set (b .devices) i d)) next
+            → Serving g m₀ size b₀ m′ (withDevices b (set (b .devices) i d)) o next
         unfolding saidOf afterOf
-        serve-power e ed en = serve-on (not-short e (λ z. let c : _≡_ {A = ℕ} 0 1 = cc in omega arith)) (rw (e, ← ed, ← en) em) (rw (e, ← ed))
+        serve-power e ed en = serve-on (not-short e (λ z. let c : _≡_ {A = ℕ} 0 1 = cc in omega arith)) (rw (e, ← ed, ← en) em) (rw (e, ← ed)) (λ z. rw e)
 
         pub serve-clock : {k : ClockTag} {i x : ℕ} {c : Clock} → q ≡ Ask.Clock k i a x → c ≡ clockAfter k x (getD (b .clocks) i noClock) → n ≡ clockValue k c
-            → Serving g m₀ size b₀ m′ (withClocks b (set (b .clocks) i c)) next
+            → Serving g m₀ size b₀ m′ (withClocks b (set (b .clocks) i c)) o next
         unfolding saidOf afterOf
-        serve-clock e ec en = serve-on (not-short e (λ z. let c : _≡_ {A = ℕ} 0 1 = cc in omega arith)) (rw (e, ← ec, ← en) em) (rw (e, ← ec))
+        serve-clock e ec en = serve-on (not-short e (λ z. let c : _≡_ {A = ℕ} 0 1 = cc in omega arith)) (rw (e, ← ec, ← en) em) (rw (e, ← ec)) (λ z. rw e)
 
         pub serve-voltage : {k : VoltageTag} {i x : ℕ} {v : Voltage} → q ≡ Ask.Voltage k i a x → v ≡ voltageAfter k x (getD (b .voltages) i noVoltage) → n ≡ voltageValue k v
-            → Serving g m₀ size b₀ m′ (withVoltages b (set (b .voltages) i v)) next
+            → Serving g m₀ size b₀ m′ (withVoltages b (set (b .voltages) i v)) o next
         unfolding saidOf afterOf
-        serve-voltage e ev en = serve-on (not-short e (λ z. let c : _≡_ {A = ℕ} 0 1 = cc in omega arith)) (rw (e, ← ev, ← en) em) (rw (e, ← ev))
+        serve-voltage e ev en = serve-on (not-short e (λ z. let c : _≡_ {A = ℕ} 0 1 = cc in omega arith)) (rw (e, ← ev, ← en) em) (rw (e, ← ev)) (λ z. rw e)
 
-        pub serve-temperature : {k : TemperatureTag} → q ≡ Ask.Temperature k a → n ≡ temperatureValue k a (b .temperature) → Serving g m₀ size b₀ m′ b next
+        pub serve-temperature : {k : TemperatureTag} → q ≡ Ask.Temperature k a → n ≡ temperatureValue k a (b .temperature) → Serving g m₀ size b₀ m′ b o next
         unfolding saidOf afterOf
-        serve-temperature e en = serve-on (not-short e (λ z. let c : _≡_ {A = ℕ} 0 1 = cc in omega arith)) (rw (e, ← en) em) (rw e)
+        serve-temperature e en = serve-on (not-short e (λ z. let c : _≡_ {A = ℕ} 0 1 = cc in omega arith)) (rw (e, ← en) em) (rw e) (λ z. rw e)
 
       module _ {m′ : List ℕ} {x : Answer} (em : m′ ≡ answered (t .at) (t .size) (answerBytes (b .facts) (b .line) x) m) where
-        pub serve-fact : {k : FactTag} → q ≡ Ask.Fact k → x ≡ factAnswer k (b .facts) → Serving g m₀ size b₀ m′ b next
+        pub serve-fact : {k : FactTag} → q ≡ Ask.Fact k → x ≡ factAnswer k (b .facts) → Serving g m₀ size b₀ m′ b o next
         unfolding saidOf afterOf
-        serve-fact e ex = serve-on (not-short e (λ z. let c : _≡_ {A = ℕ} 0 1 = cc in omega arith)) (rw (e, ← ex) em) (rw e)
+        serve-fact e ex = serve-on (not-short e (λ z. let c : _≡_ {A = ℕ} 0 1 = cc in omega arith)) (rw (e, ← ex) em) (rw e) (λ z. rw e)
 
-        pub serve-frame : {k : FrameTag} {a c : ℕ} → q ≡ Ask.Frame k a c → g .answered ≡ true → x ≡ groupAnswer g k → Serving g m₀ size b₀ m′ b next
+        pub serve-frame : {k : FrameTag} {a c : ℕ} → q ≡ Ask.Frame k a c → g .answered ≡ true → x ≡ groupAnswer g k → Serving g m₀ size b₀ m′ b o next
         unfolding saidOf afterOf
         serve-frame {k} e ga ex =
             serve-on (not-short e (λ z. let c : _≡_ {A = ℕ} 0 1 = cc in omega arith))
             (rw e (em ∙ ap (λ (y : Answer). answered (t .at) (t .size) (answerBytes (b .facts) (b .line) y) m) ex
-            ∙ ap (λ (y : Bool). written t (cond y (says (answerBytes (b .facts) (b .line) (groupAnswer g k))) silent) m) (sym ga))) (rw e)
+            ∙ ap (λ (y : Bool). written t (cond y (says (answerBytes (b .facts) (b .line) (groupAnswer g k))) silent) m) (sym ga))) (rw e) (λ z. let c : true ≡ false = sym ga ∙ z in let d : _≡_ {A = ℕ} 0 1 = cc in absurd (omega arith))
 
-      pub serve-left : {k : FrameTag} {a c : ℕ} → q ≡ Ask.Frame k a c → g .answered ≡ false → Serving g m₀ size b₀ m b next
+      pub serve-left : {k : FrameTag} {a c : ℕ} {o′ : Operation} → q ≡ Ask.Frame k a c → g .answered ≡ false → o′ ≡ noted k a c o → Serving g m₀ size b₀ m b o′ next
       unfolding saidOf afterOf
-      serve-left e ga = serve-on (not-short e (λ z. let c : _≡_ {A = ℕ} 0 1 = cc in omega arith)) (rw (e, ga)) (rw e)
+      serve-left e ga eo = serve-on (not-short e (λ z. let c : _≡_ {A = ℕ} 0 1 = cc in omega arith)) (rw (e, ga)) (rw e) (λ z. rw e eo)
 
       -- the place of an item is within the items
       pub within-devices : {k : PowerTag} {i a x : ℕ} → q ≡ Ask.Power k i a x → i < 11

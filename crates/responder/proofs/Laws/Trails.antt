@@ -1,20 +1,20 @@
 -- The trail, step by step.
 use mathlib.Core.List.{List, [], _∷_}
-use mathlib.Core.Path.{_≡_, refl, sym, ap, _∙_}
-use Prim.Native.Nat.{ℕ, _+_, _≤_}
+use mathlib.Core.Path.{_≡_, refl, ap}
+use Prim.Native.Nat.{ℕ, _+_}
 use native.Mathlib.Omega.{arith}
 use denote.Enum.Declared.{tagOf}
 use types.Run.{OneOf}
-use lib.ListN.{length, take, drop}
+use lib.ListN.{length, drop}
 use Rattle.words.proofs.Laws.Agree.{drop-later}
-use Rattle.message.proofs.Laws.Steps.{Found, found}
+use Rattle.message.proofs.Laws.Steps.{Found}
 use Rattle.message.proofs.Laws.Walks.{walk-tag, walk-stop}
 use Rattle.message.proofs.walk.Step
 use Rattle.message.specs.Sizes.{tagHeader}
-use Rattle.message.specs.Walk.{Walk, step, endingOf, walkFrom, Walking}
+use Rattle.message.specs.Walk.{Walk, step, endingOf, Walking}
 use Rattle.message.specs.declared.walk.Step.{Step}
 use Rattle.message.specs.declared.walk.Tag.{Tag}
-use Rattle.responder.specs.Requests.{Request, passed, short, asks, requestOf, valueOf, Trail, ends, goesOn, cutBy, cut, trail}
+use Rattle.responder.specs.Requests.{Request, passed, short, asks, requestOf, Trail, ends, goesOn, cutBy, cut, trail}
 use Rattle.responder.specs.Ask.{InMessage}
 
 module _ (m : List ℕ) (size p : ℕ) where

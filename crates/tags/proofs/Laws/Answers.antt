@@ -1,16 +1,15 @@
 -- Answers as bytes, and their store.
-use mathlib.Core.List.{List, [], _∷_, _++_}
+use mathlib.Core.List.{List, _++_}
 use mathlib.Core.Path.{_≡_, refl, sym, ap, _∙_}
-use Prim.Native.Nat.{ℕ, _+_, _-_, _≤_, _<_}
+use Prim.Native.Nat.{ℕ, _+_, _-_, _≤_}
 use native.Mathlib.Omega.{arith}
 use borrow.Rule.Slice.PartMut.{putMid}
 use lib.ListN.{length, take, drop, replicate, length-take, length-replicate}
-use lib.Seq.{take-all}
 use Rattle.words.proofs.Laws.Numbers.{length-le}
 use Rattle.words.proofs.Laws.Parts.{over-all, put-mid}
 use Rattle.words.proofs.Laws.Put.{put-behind}
 use Rattle.words.specs.Numbers.{le}
-use Rattle.words.specs.Put.{over, put, zeros}
+use Rattle.words.specs.Put.{over, put}
 use Rattle.board.specs.declared.facts.Facts.{Facts}
 use Rattle.message.specs.Sizes.{tagHeader}
 use Rattle.message.specs.Walk.{wordPlace}

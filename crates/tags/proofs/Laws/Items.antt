@@ -12,8 +12,8 @@ use Rattle.board.specs.declared.items.State.{State}
 use Rattle.board.specs.declared.items.Voltage.{Voltage}
 use Rattle.tags.specs.Clock.{clamp, settled, clockAfter, clockValue}
 use Rattle.tags.specs.Power.{powerAfter, powerValue}
-use Rattle.tags.specs.State.{stateOf, present, switched}
-use Rattle.tags.specs.Voltage.{voltageAfter, voltageOf, voltageValue}
+use Rattle.tags.specs.State.{present, switched}
+use Rattle.tags.specs.Voltage.{voltageAfter, voltageValue}
 use Rattle.tags.specs.declared.table.ClockTag.{ClockTag}
 use Rattle.tags.specs.declared.table.PowerTag.{PowerTag}
 use Rattle.tags.specs.declared.table.VoltageTag.{VoltageTag}

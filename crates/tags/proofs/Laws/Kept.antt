@@ -1,10 +1,10 @@
 -- A valid record stays valid under every tag outside the group.
-use mathlib.Core.Bool.{Bool, true, false}
+use mathlib.Core.Bool.{Bool, true}
 use mathlib.Core.List.{List}
-use mathlib.Core.Path.{_≡_, refl}
+use mathlib.Core.Path.{_≡_}
 use Prim.Native.Nat.{ℕ}
-use lib.ListN.{getD, set}
-use Rattle.board.proofs.Laws.Valid.{all-at, all-set, Parts, valid-parts, parts-valid, no-device-valid, no-clock-valid, no-voltage-valid}
+use lib.ListN.{getD}
+use Rattle.board.proofs.Laws.Valid.{all-at, all-set, valid-parts, parts-valid, no-device-valid, no-clock-valid, no-voltage-valid}
 use Rattle.board.specs.Items.{noDevice, noClock, noVoltage}
 use Rattle.board.specs.Valid.{all, valid, validDevice, validClock, validVoltage}
 use Rattle.board.specs.declared.record.Board.{Board}

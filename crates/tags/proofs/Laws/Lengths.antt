@@ -1,11 +1,8 @@
 -- An answer has its row's length; the command line has its own.
-use mathlib.Core.Bool.{Bool, true, false, cond, _&&_}
-use mathlib.Core.List.{List, [], _∷_, _++_}
-use mathlib.Core.Path.{_≡_, refl, sym, ap, _∙_}
-use Prim.Native.Nat.{ℕ, zero, suc, _≤_, _<_}
-use native.Mathlib.Omega.{arith}
-use lib.Dec.{T, eqb}
-use lib.ListN.{length, take, getD}
+use mathlib.Core.List.{List, [], _∷_}
+use mathlib.Core.Path.{_≡_, refl}
+use Prim.Native.Nat.{ℕ, _≤_}
+use lib.ListN.{length}
 use lib.Seq.{length-take-le}
 use Rattle.board.specs.declared.facts.Facts.{Facts}
 use Rattle.board.specs.declared.record.Board.{Board}
@@ -13,14 +10,8 @@ use Rattle.tags.specs.Answer.{answerBytes}
 use Rattle.tags.specs.Fact.{factAnswer}
 use Rattle.tags.specs.Outside.{outsideAnswer}
 use Rattle.tags.specs.Table.{Entry, outsideTags}
-use Rattle.tags.specs.declared.answer.Answer.{Answer}
-use Rattle.tags.specs.declared.table.ClockTag.{ClockTag}
 use Rattle.tags.specs.declared.table.FactTag.{FactTag}
-use Rattle.tags.specs.declared.table.FrameTag.{FrameTag}
 use Rattle.tags.specs.declared.table.Kind.{Kind}
-use Rattle.tags.specs.declared.table.PowerTag.{PowerTag}
-use Rattle.tags.specs.declared.table.TemperatureTag.{TemperatureTag}
-use Rattle.tags.specs.declared.table.VoltageTag.{VoltageTag}
 
 abbrev factLength : Facts → ℕ → FactTag → ℕ
 factLength f n FactTag.Line = f .characters

@@ -1,4 +1,4 @@
-use mathlib.Core.Path.{_≡_, sym, ap}
+use mathlib.Core.Path.{sym, ap}
 use Rattle.tags.proofs.Laws.Find.{unknown}
 use Rattle.tags.specs.Table.{rowOf, table, outsideTags, groupTags}
 use Rattle.tags.proofs.table.row_of.Statement.{statement}

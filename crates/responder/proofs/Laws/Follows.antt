@@ -2,17 +2,16 @@
 use mathlib.Core.List.{List, [], _∷_}
 use mathlib.Core.Bool.{Bool, true, false}
 use mathlib.Core.Path.{_≡_, refl, sym, ap, _∙_}
-use Prim.Native.Nat.{ℕ, zero, suc, _+_, _≤_, _<_}
+use Prim.Native.Nat.{ℕ, zero, suc, _+_, _<_}
 use native.Mathlib.Omega.{arith}
 use borrow.Author.Tests.{eqb-false}
 use lib.Dec.{eqb}
 use lib.ListN.{drop}
 use Rattle.words.proofs.Laws.Agree.{drop-later}
 use Rattle.words.specs.Numbers.{word}
-use Rattle.message.proofs.Laws.Steps.{Found, found, step-same}
+use Rattle.message.proofs.Laws.Steps.{found, step-same}
 use Rattle.message.proofs.Laws.Walks.{walk-tag}
-use Rattle.message.specs.Sizes.{tagHeader}
-use Rattle.message.specs.Walk.{tagAt, overruns, stepOf, step, endingOf, stopped, more, walk, walkFrom, Walk}
+use Rattle.message.specs.Walk.{tagAt, overruns, stepOf, step, endingOf, stopped, more, walk, walkFrom}
 use Rattle.message.specs.declared.walk.Ending.{Ending}
 use Rattle.message.specs.declared.walk.Step.{Step}
 use Rattle.message.specs.declared.walk.Tag.{Tag}

@@ -1,13 +1,13 @@
 -- What is said is never long.
-use mathlib.Core.Bool.{Bool, true, false, cond, _&&_, and-eq-true-iff}
+use mathlib.Core.Bool.{Bool, true, false, cond, and-eq-true-iff}
 use mathlib.Core.List.{List, [], _∷_}
-use mathlib.Core.Path.{_≡_, refl, sym, ap, _∙_}
+use mathlib.Core.Path.{_≡_, refl, ap, _∙_}
 use Prim.Native.Nat.{ℕ, _^_, _≤_, _<_}
 use native.Mathlib.Omega.{arith}
 use borrow.Author.Tests.{leb-true}
 use lib.Dec.{leb, ltb}
-use lib.ListN.{length, take, length-take}
-use Rattle.board.proofs.Laws.Valid.{Parts, valid-parts}
+use lib.ListN.{length, length-take}
+use Rattle.board.proofs.Laws.Valid.{valid-parts}
 use Rattle.board.specs.Valid.{valid, validFacts}
 use Rattle.board.specs.declared.facts.Facts.{Facts}
 use Rattle.board.specs.declared.record.Board.{Board}
@@ -17,9 +17,8 @@ use Rattle.tags.specs.declared.answer.Answer.{Answer}
 use Rattle.tags.specs.declared.table.Kind.{Kind}
 use Rattle.display.specs.Decision.{groupAnswer}
 use Rattle.display.specs.declared.decision.Decision.{Decision}
 use Rattle.responder.specs.Answers.{Said, silent, says, first, second, saidBy, afterBy, answers}
 use Rattle.responder.specs.Requests.{Request, passed, short, asks}
-use Rattle.demands.proofs.Laws.Rewritten.{Short}
 
 answer-short : (f : Facts) (line : List ℕ) (a : Answer) → length (f .mac) ≡ 6 → f .characters ≤ 256 → length (answerBytes f line a) < 2 ^ 31
 unfolding answerBytes
@@ -30,11 +29,11 @@ answer-short f line (Answer.Long n) mac l = omega arith
 answer-short f line Answer.Mac mac l = omega arith
 answer-short f line Answer.Line mac l = simp length-take (omega arith)
 
-abbrev ShortSaid : Said → Type 0
+abbrev pub ShortSaid : Said → Type 0
 ShortSaid silent = Unit {0}
 ShortSaid (says answer) = length answer < 2 ^ 31
 
-said-short : (g : Decision) (b : Board) (r : Request) → length (b .facts .mac) ≡ 6 → b .facts .characters ≤ 256 → ShortSaid (saidBy g b r)
+pub said-short : (g : Decision) (b : Board) (r : Request) → length (b .facts .mac) ≡ 6 → b .facts .characters ≤ 256 → ShortSaid (saidBy g b r)
 unfolding saidBy
 said-short g b passed mac l = tt
 said-short g b short mac l = tt
@@ -50,7 +49,7 @@ said-short g b (asks (Kind.Voltage t) bytes) mac l = answer-short (b .facts) (b 
 said-short g b (asks (Kind.Temperature t) bytes) mac l = answer-short (b .facts) (b .line) (outsideAnswer (Kind.Temperature t) (first bytes) (second bytes) b) mac l
 
 -- the facts never change
-after-facts : (b : Board) (r : Request) → afterBy b r .facts ≡ b .facts
+pub after-facts : (b : Board) (r : Request) → afterBy b r .facts ≡ b .facts
 unfolding afterBy outsideAfter
 after-facts b passed = refl
 after-facts b short = refl
@@ -60,6 +59,11 @@ after-facts b (asks (Kind.Power t) bytes) = refl
 after-facts b (asks (Kind.Clock t) bytes) = refl
 after-facts b (asks (Kind.Voltage t) bytes) = refl
 after-facts b (asks (Kind.Temperature t) bytes) = refl
+
+abbrev pub Short : List Said → Type 0
+Short [] = Unit {0}
+Short (silent ∷ ss) = Short ss
+Short (says answer ∷ ss) = (length answer < 2 ^ 31) × Short ss
 
 join : (s : Said) (ss : List Said) → ShortSaid s → Short ss → Short (s ∷ ss)
 join silent ss a h = h

@@ -1,0 +1,256 @@
+-- A message that was walked once with its group left alone, and is walked again with the group decided: nothing but the group is written then, and the record stays.
+use mathlib.Core.Bool.{false}
+use mathlib.Core.List.{List, [], _∷_}
+use mathlib.Core.Path.{_≡_, refl, sym, ap, _∙_, subst}
+use Prim.Native.Nat.{ℕ, _+_, _≤_}
+use native.Mathlib.Omega.{arith}
+use borrow.Author.Tests.{le-leb}
+use lib.ListN.{length, take, drop, length-take}
+use Rattle.words.proofs.Laws.Agree.{drop-later, part-before}
+use Rattle.words.proofs.Laws.Put.{put-apart}
+use Rattle.words.specs.Numbers.{le, word}
+use Rattle.words.specs.Put.{put}
+use Rattle.message.proofs.Laws.Steps.{found, step-same}
+use Rattle.message.specs.Sizes.{header, tagHeader}
+use Rattle.message.specs.Walk.{Walk, wordPlace, tagAt, step, walkFrom}
+use Rattle.message.specs.declared.walk.Ending.{Ending}
+use Rattle.message.specs.declared.walk.Step.{Step}
+use Rattle.message.specs.declared.walk.Tag.{Tag}
+use Rattle.board.specs.declared.facts.Facts.{Facts}
+use Rattle.board.specs.declared.record.Board.{Board}
+use Rattle.tags.specs.Outside.{outsideAfter}
+use Rattle.tags.specs.Reply.{answered}
+use Rattle.tags.specs.declared.table.FrameTag.{FrameTag}
+use Rattle.tags.specs.declared.table.Kind.{Kind}
+use Rattle.display.specs.declared.decision.Decision.{Decision}
+use Rattle.responder.proofs.Laws.Follows.{Follows, follows, follows-walk, follows-same}
+use Rattle.responder.proofs.Laws.Said.{after-is, after-line}
+use Rattle.responder.proofs.Laws.Saids.{ShortSaid, said-short, after-facts}
+use Rattle.responder.proofs.Laws.Trails.{trail-tag, request-same}
+use Rattle.responder.proofs.Laws.Written.{answered-word, written-length, written-behind, writes-before, cut-writes, reworded}
+use Rattle.responder.specs.Answers.{Said, silent, says, saidBy, afterBy, answers, after}
+use Rattle.responder.specs.Ask.{askOf}
+use Rattle.responder.specs.Reply.{written, writeAll}
+use Rattle.responder.specs.Requests.{Request, passed, short, asks, requestBy, requestOf, Trail, ends, goesOn, cutBy, cut, trail}
+use Rattle.responder.specs.Serve.{bytesOf}
+
+-- ---- answers of tags that stand apart are written in either order
+module _ (at size : ℕ) (x : List ℕ) (at′ size′ : ℕ) (x′ : List ℕ) (apart : at + tagHeader + size ≤ at′) where
+  pub answered-apart : (m : List ℕ) → answered at′ size′ x′ (answered at size x m) ≡ answered at size x (answered at′ size′ x′ m)
+  unfolding answered
+  answered-apart m =
+      let w = le 4 (0x8000_0000 + length x) in
+      let w′ = le 4 (0x8000_0000 + length x′) in
+      let v = take size x in
+      let v′ = take size′ x′ in
+      let l : length v ≤ size = simp length-take (omega arith) in
+      let m₁ = put (at + wordPlace) w m in
+      ap (put (at′ + tagHeader) v′) (put-apart (at + tagHeader) (at′ + wordPlace) v w′ m₁ (omega arith))
+      ∙ put-apart (at + tagHeader) (at′ + tagHeader) v v′ (put (at′ + wordPlace) w′ m₁) (omega arith)
+      ∙ ap (λ (y : List ℕ). put (at + tagHeader) v (put (at′ + tagHeader) v′ y)) (put-apart (at + wordPlace) (at′ + wordPlace) w w′ m (omega arith))
+      ∙ ap (put (at + tagHeader) v) (put-apart (at + wordPlace) (at′ + tagHeader) w v′ (put (at′ + wordPlace) w′ m) (omega arith))
+
+written-apart : (t u : Tag) (s v : Said) (m : List ℕ) → t .at + tagHeader + t .size ≤ u .at → written u v (written t s m) ≡ written t s (written u v m)
+written-apart t u silent v m h = refl
+written-apart t u (says x) silent m h = refl
+written-apart t u (says x) (says y) m h = answered-apart (t .at) (t .size) x (u .at) (u .size) y h m
+
+-- what a tag says, and what is said behind it
+writes-apart : (t : Tag) (s : Said) (m : List ℕ) (size p : ℕ) (ts : List Tag) (ss : List Said) (e : Ending) → t .at + tagHeader + t .size ≤ p → Follows m size p ts e
+    → writeAll ts ss (written t s m) ≡ written t s (writeAll ts ss m)
+writes-apart t s m size p [] ss e l h = refl
+writes-apart t s m size p (u ∷ us) [] e l h = refl
+writes-apart t s m size p (u ∷ us) (v ∷ vs) e l h =
+    let f = found m size p (h .1) in
+    ap (writeAll us vs) (written-apart t u s v m (omega arith))
+    ∙ writes-apart t s (written u v m) size (h .0) us vs e (omega arith) (follows-same m (written u v m) size (h .0) us e (sym (written-behind u v m (h .0) (omega arith))) (h .2))
+
+-- ---- what is read again
+-- a trail reads only what stands from its place on
+trail-same : (m m′ : List ℕ) (size p : ℕ) (ts : List Tag) (e : Ending) → Follows m size p ts e → drop p m ≡ drop p m′ → trail m size p ≡ trail m′ size p
+unfolding trail
+trail-same m m′ size p [] e h d =
+    ap (λ (w : Walk). cut m (w .tags) (w .ending)) (follows-walk m size p [] e h)
+    ∙ ap (λ (w : Walk). cut m′ (w .tags) (w .ending)) (sym (follows-walk m′ size p [] e (follows-same m m′ size p [] e d h)))
+trail-same m m′ size p (t ∷ ts) e h d =
+    let f = found m size p (h .1) in
+    trail-tag m size p (h .1)
+    ∙ ap (λ (r : Request). cutBy r t (trail m size (h .0))) (request-same m m′ t (rw (f .at) d))
+    ∙ ap (cutBy (requestOf m′ t) t) (trail-same m m′ size (h .0) ts e (h .2) (drop-later p (h .0) m m′ (omega arith) d))
+    ∙ sym (trail-tag m′ size p (sym (step-same m m′ size p d) ∙ h .1))
+
+trail-behind : (m m′ : List ℕ) (size p : ℕ) → drop p m ≡ drop p m′ → trail m size p ≡ trail m′ size p
+trail-behind m m′ size p d = trail-same m m′ size p (walkFrom m size p .tags) (walkFrom m size p .ending) (follows m size p) d
+
+-- a request reads only what stands before the tag's end
+request-before : (m m′ : List ℕ) (t : Tag) (q : ℕ) → t .at + tagHeader + t .size ≤ q → take q m ≡ take q m′ → requestOf m t ≡ requestOf m′ t
+unfolding requestOf
+request-before m m′ t q l e = rw (part-before q (t .at + tagHeader) (t .size) m m′ l e)
+
+-- a tag that was answered is passed over
+answered-passed : (m : List ℕ) (t : Tag) → 0x8000_0000 ≤ t .word → requestOf m t ≡ passed
+unfolding requestOf requestBy
+answered-passed m t h = rw (le-leb 0x8000_0000 (t .word) h)
+
+-- two records with the same facts and the same command line
+pub record Alike (b b₁ : Board) : Type 0 where
+  pub facts : b₁ .facts ≡ b .facts
+  pub line : b₁ .line ≡ b .line
+
+line-same : (b : Board) (r : Request) → afterBy b r .line ≡ b .line
+line-same b r = ap (λ (x : Board). x .line) (after-is b r) ∙ after-line b (askOf r)
+
+pub after-alike : (b : Board) (rs : List Request) → Alike b (after b rs)
+after-alike b [] = record { facts = refl; line = refl }
+after-alike b (r ∷ rs) =
+    let h = after-alike (afterBy b r) rs in
+    record { facts = h .facts ∙ after-facts b r; line = h .line ∙ line-same b r }
+
+-- what the second walk of m₁ on b₁ leaves is what one walk of m on b would have
+pub record Twice (g : Decision) (b b₁ : Board) (tr : Trail) (m : List ℕ) (tr₁ : Trail) (m₁ : List ℕ) : Type 0 where
+  pub bytes : bytesOf g b₁ tr₁ m₁ ≡ bytesOf g b tr m
+  pub board : after b₁ (tr₁ .requests) ≡ b₁
+  pub ending : tr₁ .ending ≡ tr .ending
+
+module _ (g₀ g : Decision) (size : ℕ) where
+  -- the message as the first walk leaves it
+  abbrev swept : List Tag → Board → Trail → List ℕ → List ℕ
+  swept ts b tr m = writeAll ts (answers g₀ b (tr .requests)) m
+
+  abbrev Goal : List Tag → (b b₁ : Board) → (p : ℕ) → Trail → List ℕ → Type 0
+  Goal ts b b₁ p tr m = Twice g b b₁ tr m (trail (swept ts b tr m) size p) (swept ts b tr m)
+
+  module _ (t : Tag) (ts : List Tag) (e : Ending) (m : List ℕ) (p q : ℕ) (st : step m size p ≡ Step.Tag t q) (rest : Follows m size q ts e) (l : size ≤ length m) where
+    -- the trail behind the tag, with what the tag says written
+    behind : (s : Said) → trail m size q ≡ trail (written t s m) size q
+    behind s =
+        let f = found m size p st in
+        trail-behind m (written t s m) size q (sym (written-behind t s m q (omega arith)))
+
+    -- a tag that is passed over in the second walk: it said in the first what it says in one
+    over : (r : Request) (b b₁ : Board) {t₁ : Tag}
+        → saidBy g₀ b r ≡ saidBy g b r
+        → step (swept ts (afterBy b r) (trail m size q) (written t (saidBy g₀ b r) m)) size p ≡ Step.Tag t₁ q
+        → requestOf (swept ts (afterBy b r) (trail m size q) (written t (saidBy g₀ b r) m)) t₁ ≡ passed
+        → Goal ts (afterBy b r) b₁ q (trail (written t (saidBy g₀ b r) m) size q) (written t (saidBy g₀ b r) m)
+        → Goal (t ∷ ts) b b₁ p (goesOn t r (trail m size q)) m
+    unfolding saidBy afterBy
+    over r b b₁ {t₁} es e₁ er ih =
+        let m₁ = written t (saidBy g₀ b r) m in
+        let x = swept ts (afterBy b r) (trail m size q) m₁ in
+        let tr : trail x size p ≡ goesOn t₁ passed (trail x size q) = trail-tag x size p e₁ ∙ ap (λ (z : Request). cutBy z t₁ (trail x size q)) er in
+        let ih₁ : Goal ts (afterBy b r) b₁ q (trail m size q) m₁ = subst (λ (z : Trail). Goal ts (afterBy b r) b₁ q z m₁) (sym (behind (saidBy g₀ b r))) ih in
+        record {
+          bytes = ap (λ (z : Trail). bytesOf g b₁ z x) tr ∙ ih₁ .bytes ∙ ap (λ (s : Said). bytesOf g (afterBy b r) (trail m size q) (written t s m)) es;
+          board = ap (λ (z : Trail). after b₁ (z .requests)) tr ∙ ih₁ .board;
+          ending = ap (λ (z : Trail). z .ending) tr ∙ ih₁ .ending;
+        }
+
+    -- a group tag: the first walk leaves it, the second writes what one would have
+    group : (r : Request) (b b₁ : Board)
+        → saidBy g₀ b r ≡ silent
+        → saidBy g b₁ r ≡ saidBy g b r
+        → ((x : Board) → afterBy x r ≡ x)
+        → step (swept ts b (trail m size q) m) size p ≡ Step.Tag t q
+        → cutBy (requestOf (swept ts b (trail m size q) m) t) t (trail (swept ts b (trail m size q) m) size q) ≡ goesOn t r (trail (swept ts b (trail m size q) m) size q)
+        → Goal ts b b₁ q (trail (written t (saidBy g b₁ r) m) size q) (written t (saidBy g b₁ r) m)
+        → Goal (t ∷ ts) b b₁ p (goesOn t r (trail m size q)) m
+    group r b b₁ es ev ea e₁ er ih =
+        let f = found m size p st in
+        let v = saidBy g b₁ r in
+        let rs = trail m size q .requests in
+        let x = swept ts b (trail m size q) m in
+        let moved : swept ts b (trail m size q) (written t v m) ≡ written t v x = writes-apart t v m size q ts (answers g₀ b rs) e (omega arith) rest in
+        let tr : trail x size p ≡ goesOn t r (trail x size q) = trail-tag x size p e₁ ∙ er in
+        let same : trail x size q ≡ trail (written t v x) size q = trail-behind x (written t v x) size q (sym (written-behind t v x q (omega arith))) in
+        let ih₁ : Goal ts b b₁ q (trail m size q) (written t v m) = subst (λ (z : Trail). Goal ts b b₁ q z (written t v m)) (sym (behind v)) ih in
+        let ih₂ : Twice g b b₁ (trail m size q) (written t v m) (trail x size q) (written t v x) =
+        subst (λ (z : Trail). Twice g b b₁ (trail m size q) (written t v m) z (written t v x)) (sym same)
+        (subst (λ (y : List ℕ). Twice g b b₁ (trail m size q) (written t v m) (trail y size q) y) moved ih₁) in
+        let left : x ≡ swept (t ∷ ts) b (goesOn t r (trail m size q)) m =
+        ap (λ (y : Board). writeAll ts (answers g₀ y rs) m) (sym (ea b)) ∙ ap (λ (s : Said). writeAll ts (answers g₀ (afterBy b r) rs) (written t s m)) (sym es) in
+        subst (λ (y : List ℕ). Twice g b b₁ (goesOn t r (trail m size q)) m (trail y size p) y) left
+        (record {
+          bytes =
+              ap (λ (z : Trail). bytesOf g b₁ z x) tr
+              ∙ ap (λ (y : Board). bytesOf g y (trail x size q) (written t v x)) (ea b₁)
+              ∙ ih₂ .bytes
+              ∙ ap (λ (s : Said). bytesOf g b (trail m size q) (written t s m)) ev
+              ∙ ap (λ (y : Board). bytesOf g y (trail m size q) (written t (saidBy g b r) m)) (sym (ea b));
+          board = ap (λ (z : Trail). after b₁ (z .requests)) tr ∙ ap (λ (y : Board). after y (trail x size q .requests)) (ea b₁) ∙ ih₂ .board;
+          ending = ap (λ (z : Trail). z .ending) tr ∙ ih₂ .ending;
+        })
+
+    -- ---- one tag, the others behind it
+    module _ (quiet : g₀ .answered ≡ false) (b b₁ : Board) (six : length (b .facts .mac) ≡ 6) (few : b .facts .characters ≤ 256) (al : Alike b b₁)
+        (ih : (m′ : List ℕ) (b′ : Board) → Follows m′ size q ts e → size ≤ length m′ → length (b′ .facts .mac) ≡ 6 → b′ .facts .characters ≤ 256 → Alike b′ b₁ → Goal ts b′ b₁ q (trail m′ size q) m′) where
+      next : (r : Request) (s : Said) → Goal ts (afterBy b r) b₁ q (trail (written t s m) size q) (written t s m)
+      next r s =
+          let f = found m size p st in
+          let ef = after-facts b r in
+          let n = written-length t s m in
+          ih (written t s m) (afterBy b r) (follows-same m (written t s m) size q ts e (sym (written-behind t s m q (omega arith))) rest) (omega arith) (ap (λ (x : Facts). length (x .mac)) ef ∙ six)
+          (rw ef few) (record { facts = al .facts ∙ sym ef; line = al .line ∙ sym (line-same b r) })
+
+      -- a tag outside the group
+      outside : (r : Request) (a : List ℕ) → saidBy g₀ b r ≡ says a → saidBy g b r ≡ says a → Goal (t ∷ ts) b b₁ p (goesOn t r (trail m size q)) m
+      outside r a e₀ e₁ =
+          let f = found m size p st in
+          let k : ShortSaid (says a) = rw e₀ at (said-short g₀ b r six few) in
+          let w : word (written t (saidBy g₀ b r) m) (p + wordPlace) ≡ 0x8000_0000 + length a =
+          ap (λ (s : Said). word (written t s m) (p + wordPlace)) e₀ ∙ rw (← (f .at)) (answered-word (t .at) (t .size) a m k (omega arith)) in
+          let x = swept ts (afterBy b r) (trail m size q) (written t (saidBy g₀ b r) m) in
+          over r b b₁ (e₀ ∙ sym e₁) (reworded m size p t q (saidBy g₀ b r) ts (answers g₀ (afterBy b r) (trail m size q .requests)) e st rest l w)
+          (answered-passed x (record { at = t .at; id = t .id; size = t .size; word = 0x8000_0000 + length a }) (omega arith)) (next r (saidBy g₀ b r))
+
+      -- a tag that says nothing in the first walk stays as it is
+      module _ (ss : List Said) where
+        kept-step : step (writeAll ts ss m) size p ≡ Step.Tag t q
+        unfolding tagAt
+        kept-step = let f = found m size p st in reworded m size p t q silent ts ss e st rest l (sym (ap (λ (x : Tag). x .word) (f .is)))
+
+        kept-request : requestOf (writeAll ts ss m) t ≡ requestOf m t
+        kept-request = let f = found m size p st in request-before (writeAll ts ss m) m t q (omega arith) (writes-before m size q ts ss e rest)
+
+      frame : {k : FrameTag} {bytes : List ℕ} → requestOf m t ≡ asks (Kind.Frame k) bytes → Goal (t ∷ ts) b b₁ p (goesOn t (asks (Kind.Frame k) bytes) (trail m size q)) m
+      unfolding saidBy afterBy outsideAfter
+      frame {k} {bytes} er =
+          let ss = answers g₀ b (trail m size q .requests) in
+          let r = asks (Kind.Frame k) bytes in
+          group r b b₁ (rw quiet) (rw (al .facts, al .line)) (λ (x : Board). refl) (kept-step ss)
+          (ap (λ (z : Request). cutBy z t (trail (writeAll ts ss m) size q)) (kept-request ss ∙ er)) (next r (saidBy g b₁ r))
+
+      at-tag : (r : Request) → requestOf m t ≡ r → Goal (t ∷ ts) b b₁ p (cutBy r t (trail m size q)) m
+      unfolding saidBy afterBy
+      at-tag passed er =
+          let ss = answers g₀ b (trail m size q .requests) in
+          over passed b b₁ refl (kept-step ss) (kept-request ss ∙ er) (next passed silent)
+      at-tag short er =
+          let tr : trail m size p ≡ cutBy short t (trail m size q) = trail-tag m size p st ∙ ap (λ (z : Request). cutBy z t (trail m size q)) er in
+          record { bytes = ap (λ (z : Trail). bytesOf g b₁ z m) tr; board = ap (λ (z : Trail). after b₁ (z .requests)) tr; ending = ap (λ (z : Trail). z .ending) tr }
+      at-tag (asks (Kind.Frame k) bytes) er = frame er
+      at-tag (asks (Kind.Fact k) bytes) er = outside (asks (Kind.Fact k) bytes) _ refl refl
+      at-tag (asks (Kind.Power k) bytes) er = outside (asks (Kind.Power k) bytes) _ refl refl
+      at-tag (asks (Kind.Clock k) bytes) er = outside (asks (Kind.Clock k) bytes) _ refl refl
+      at-tag (asks (Kind.Voltage k) bytes) er = outside (asks (Kind.Voltage k) bytes) _ refl refl
+      at-tag (asks (Kind.Temperature k) bytes) er = outside (asks (Kind.Temperature k) bytes) _ refl refl
+
+  twice-from : (ts : List Tag) (e : Ending) (m : List ℕ) (p : ℕ) (b b₁ : Board) → g₀ .answered ≡ false → Follows m size p ts e → size ≤ length m → length (b .facts .mac) ≡ 6 → b .facts .characters ≤ 256 → Alike b b₁
+      → Goal ts b b₁ p (trail m size p) m
+  unfolding trail
+  twice-from [] e m p b b₁ quiet h l six few al =
+      let tr : trail m size p ≡ ends e = ap (λ (w : Walk). cut m (w .tags) (w .ending)) (follows-walk m size p [] e h) in
+      record { bytes = ap (λ (z : Trail). bytesOf g b₁ z m) tr ∙ ap (λ (z : Trail). bytesOf g b z m) (sym tr); board = ap (λ (z : Trail). after b₁ (z .requests)) tr; ending = refl }
+  twice-from (t ∷ ts) e m p b b₁ quiet h l six few al =
+      subst (λ (z : Trail). Goal (t ∷ ts) b b₁ p z m) (sym (trail-tag m size p (h .1)))
+      (at-tag t ts e m p (h .0) (h .1) (h .2) l quiet b b₁ six few al (λ m′ b′ f′ l′ s′ w′ a′. twice-from ts e m′ (h .0) b′ b₁ quiet f′ l′ s′ w′ a′) (requestOf m t) refl)
+
+-- a message walked once with its group left alone, and once more, is one walk's
+pub twice : (g₀ g : Decision) (m : List ℕ) (size : ℕ) (b b₁ : Board) → g₀ .answered ≡ false → size ≤ length m → length (b .facts .mac) ≡ 6 → b .facts .characters ≤ 256 → Alike b b₁
+    → {m₁ : List ℕ} → m₁ ≡ bytesOf g₀ b (trail m size header) m → Twice g b b₁ (trail m size header) m (trail m₁ size header) m₁
+unfolding trail
+twice g₀ g m size b b₁ quiet l six few al {m₁} e =
+    let tr = trail m size header in
+    let w = walkFrom m size header in
+    let x : m₁ ≡ writeAll (w .tags) (answers g₀ b (tr .requests)) m = e ∙ cut-writes g₀ b m (w .tags) (w .ending) m in
+    subst (λ (y : List ℕ). Twice g b b₁ tr m (trail y size header) y) (sym x) (twice-from g₀ g size (w .tags) (w .ending) m header b b₁ quiet (follows m size header) l six few al)
