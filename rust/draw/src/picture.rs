@@ -1,0 +1,103 @@
+//! One drawing: a line for each word, with what it is.
+
+use crate::names;
+use crate::roles::{self, Role};
+use std::io::{self, Write};
+
+/// Lines alike behind a message are drawn once from this many on.
+const ALIKE: usize = 4;
+
+fn tag_word(word: u32, size: u32) -> String {
+    let length = word & 0x7fff_ffff;
+    if word == length {
+        return "  tag word, request".to_string();
+    }
+    if length > size {
+        return format!("  tag word, answer of {length} bytes, {size} stored");
+    }
+    format!("  tag word, answer of {length} bytes")
+}
+
+fn value(word: u32, bytes: usize) -> String {
+    match bytes {
+        4 => format!("  value {word}"),
+        1 => "  value, 1 byte, and padding".to_string(),
+        _ => format!("  value, {bytes} bytes, and padding"),
+    }
+}
+
+fn describe(role: Role, word: u32) -> String {
+    match role {
+        Role::Size => format!("size {word}"),
+        Role::Code => format!("code, {}", names::code(word)),
+        Role::Id => format!("tag, {}", names::tag(word)),
+        Role::ValueSize => format!("  value size {word}"),
+        Role::TagWord(size) => tag_word(word, size),
+        Role::Value(bytes) => value(word, bytes),
+        Role::End => "end".to_string(),
+        Role::Padding => "padding".to_string(),
+        Role::Fault => "tag that runs over".to_string(),
+        Role::Unread => "not read".to_string(),
+        Role::Behind => "behind the message".to_string(),
+    }
+}
+
+/// The word at this place, as far as there are bytes.
+fn word_at(bytes: &[u8], at: usize) -> u32 {
+    let mut word = [0; 4];
+    let there = &bytes[at..bytes.len().min(at + 4)];
+    word[..there.len()].copy_from_slice(there);
+    u32::from_le_bytes(word)
+}
+
+/// Bytes of a last word that is not whole, in the order of the file.
+fn loose(out: &mut impl Write, bytes: &[u8], at: usize) -> io::Result<()> {
+    let digits: Vec<String> = bytes[at..].iter().map(|byte| format!("{byte:02x}")).collect();
+    writeln!(out, "{at:6}  {:<10} bytes that are no whole word", digits.join(" "))
+}
+
+/// How many words from here on are alike and only fill up.
+fn alike(bytes: &[u8], roles: &[Role], index: usize) -> usize {
+    if !matches!(roles[index], Role::Padding | Role::Behind | Role::Unread) {
+        return 1;
+    }
+    let word = word_at(bytes, index * 4);
+    (index..roles.len())
+        .take_while(|&i| roles[i] == roles[index] && word_at(bytes, i * 4) == word)
+        .count()
+}
+
+fn line(
+    out: &mut impl Write,
+    at: usize,
+    word: u32,
+    changed: bool,
+    text: &str,
+    colour: bool,
+) -> io::Result<()> {
+    let (on, off) = if changed && colour { ("\x1b[1;33m", "\x1b[0m") } else { ("", "") };
+    let mark = if changed { '*' } else { ' ' };
+    writeln!(out, "{on}{at:6}  {word:08x} {mark} {text}{off}")
+}
+
+/// Draws the bytes; words that are not as they were before are marked.
+pub fn draw(out: &mut impl Write, bytes: &[u8], before: &[u8], colour: bool) -> io::Result<()> {
+    let count = bytes.len() / 4;
+    let roles = roles::of(bytes);
+    let mut index = 0;
+    while index < count {
+        let at = index * 4;
+        let word = word_at(bytes, at);
+        line(out, at, word, word != word_at(before, at), &describe(roles[index], word), colour)?;
+        let same = alike(bytes, &roles, index);
+        index += 1;
+        if same > ALIKE {
+            writeln!(out, "     .. {} more words like it", same - 1)?;
+            index += same - 1;
+        }
+    }
+    if bytes.len() % 4 != 0 {
+        loose(out, bytes, count * 4)?;
+    }
+    Ok(())
+}

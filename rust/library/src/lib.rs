@@ -1,0 +1,142 @@
+//! The C library, called from Rust. Every pointer passed comes from a slice, with its length, or from a
+//! reference, and nothing lent to be written overlaps anything else.
+
+use std::mem::MaybeUninit;
+
+pub use interface::record::*;
+pub use interface::{Listed, Reading};
+
+mod c {
+    use interface::record::Board;
+
+    extern "C" {
+        pub fn vc_start(buffer: *const u8, length: usize, cursor: *mut usize) -> u32;
+        pub fn vc_add(
+            buffer: *mut u8,
+            length: usize,
+            cursor: *mut usize,
+            id: u32,
+            size: u32,
+            request: *const u8,
+            request_length: usize,
+        ) -> u32;
+        pub fn vc_finish(buffer: *mut u8, length: usize, cursor: usize, size: *mut usize) -> u32;
+        pub fn vc_list(
+            message: *const u8,
+            length: usize,
+            index: usize,
+            place: *mut usize,
+            id: *mut u32,
+            size: *mut u32,
+            word: *mut u32,
+            value: *mut usize,
+        ) -> u32;
+        pub fn vc_read(
+            message: *const u8,
+            length: usize,
+            id: u32,
+            occurrence: usize,
+            wanted: usize,
+            place: *mut usize,
+            answer: *mut u32,
+            value: *mut usize,
+            count: *mut usize,
+        ) -> u32;
+        pub fn vc_bench(board: *mut Board);
+        pub fn vc_serve(
+            board: *mut Board,
+            message: *mut u8,
+            length: usize,
+            place: *mut usize,
+        ) -> u32;
+    }
+}
+
+/// What a number given back holds where a call forgets to give it.
+const UNSET: u32 = 0xDEAD_BEEF;
+
+/// The outcome and the first cursor.
+pub fn start(buffer: &[u8]) -> (u32, usize) {
+    let mut cursor = UNSET as usize;
+    let outcome = unsafe { c::vc_start(buffer.as_ptr(), buffer.len(), &mut cursor) };
+    (outcome, cursor)
+}
+
+/// Adds a tag and moves the cursor behind it.
+pub fn add(buffer: &mut [u8], cursor: &mut usize, id: u32, size: u32, request: &[u8]) -> u32 {
+    let (start, length) = (buffer.as_mut_ptr(), buffer.len());
+    unsafe { c::vc_add(start, length, cursor, id, size, request.as_ptr(), request.len()) }
+}
+
+/// The outcome and the message's size.
+pub fn finish(buffer: &mut [u8], cursor: usize) -> (u32, usize) {
+    let mut size = UNSET as usize;
+    let outcome = unsafe { c::vc_finish(buffer.as_mut_ptr(), buffer.len(), cursor, &mut size) };
+    (outcome, size)
+}
+
+/// The tag of this index, counted from 0.
+pub fn list(message: &[u8], index: usize) -> Listed {
+    let mut listed = Listed {
+        outcome: UNSET,
+        place: UNSET as usize,
+        id: UNSET,
+        size: UNSET,
+        word: UNSET,
+        value: UNSET as usize,
+    };
+    listed.outcome = unsafe {
+        c::vc_list(
+            message.as_ptr(),
+            message.len(),
+            index,
+            &mut listed.place,
+            &mut listed.id,
+            &mut listed.size,
+            &mut listed.word,
+            &mut listed.value,
+        )
+    };
+    listed
+}
+
+/// The first `wanted` bytes of the answer of the tag of this id and occurrence.
+pub fn read(message: &[u8], id: u32, occurrence: usize, wanted: usize) -> Reading {
+    let mut reading = Reading {
+        outcome: UNSET,
+        place: UNSET as usize,
+        answer: UNSET,
+        value: UNSET as usize,
+        count: UNSET as usize,
+    };
+    reading.outcome = unsafe {
+        c::vc_read(
+            message.as_ptr(),
+            message.len(),
+            id,
+            occurrence,
+            wanted,
+            &mut reading.place,
+            &mut reading.answer,
+            &mut reading.value,
+            &mut reading.count,
+        )
+    };
+    reading
+}
+
+/// The bench record.
+pub fn bench() -> Board {
+    let mut board = MaybeUninit::<Board>::zeroed();
+    unsafe {
+        c::vc_bench(board.as_mut_ptr());
+        board.assume_init()
+    }
+}
+
+/// Serves the message on the board; the outcome and its place.
+pub fn serve(board: &mut Board, message: &mut [u8]) -> (u32, usize) {
+    let mut place = UNSET as usize;
+    let outcome = unsafe { c::vc_serve(board, message.as_mut_ptr(), message.len(), &mut place) };
+    (outcome, place)
+}
