@@ -1,19 +1,26 @@
 // Text and numbers on standard output.
 use libc::STDOUT_FILENO;
 use words::numbers::u32_at;
+ghost use mathlib.Core.Path.{_≡_};
 
-pub fn text(words: &[u8]) {
+pub fn text(words: &[u8])
+    ensures { λ r. ⌜ r ≡ tt ⌝ }
+{
     io::write_all(STDOUT_FILENO, words);
 }
 
 // A name and a number.
-pub fn number(name: &[u8], n: u64) {
+pub fn number(name: &[u8], n: u64)
+    ensures { λ r. ⌜ r ≡ tt ⌝ }
+{
     text(name);
     io::print_decimal(STDOUT_FILENO, n);
 }
 
 // A name and a word in hexadecimal.
-pub fn word(name: &[u8], n: u32) {
+pub fn word(name: &[u8], n: u32)
+    ensures { λ r. ⌜ r ≡ tt ⌝ }
+{
     text(name);
     io::print_hex(STDOUT_FILENO, n as u64, 8);
 }
@@ -37,7 +44,9 @@ fn words_in(bytes: &[u8]) {
 }
 
 // The words of a run of bytes, in one line.
-pub fn words_of(bytes: &[u8]) {
+pub fn words_of(bytes: &[u8])
+    ensures { λ r. ⌜ r ≡ tt ⌝ }
+{
     words_in(bytes);
     text(b"\n");
 }

@@ -24,14 +24,18 @@ pub fn serve(name: &[u8], board: Board, bytes: &mut [u8]) -> Board
 }
 
 // A message of no tags in 11 of its 12 bytes.
-pub fn eleven() {
+pub fn eleven()
+    ensures { λ r. ⌜ r ≡ tt ⌝ }
+{
     let mut lent = [0u8; 11];
     lent[0] = 12;
     serve(b"lent 11", bench_record(), &mut lent);
 }
 
 // A message of no tags, on a record whose DMA mask has bit 16.
-pub fn invalid() {
+pub fn invalid()
+    ensures { λ r. ⌜ r ≡ tt ⌝ }
+{
     let mut board = bench_record();
     board.facts.dma = 0x1_0000;
     let mut lent = [0u8; 12];
@@ -40,7 +44,9 @@ pub fn invalid() {
 }
 
 // A message of no tags with this size word, in 65,540 bytes.
-pub fn long(name: &[u8], size: u32) {
+pub fn long(name: &[u8], size: u32)
+    ensures { λ r. ⌜ r ≡ tt ⌝ }
+{
     let mut lent = [0u8; 65540];
     put_u32(&mut lent, 0, size);
     let served = respond(bench_record(), &mut lent);

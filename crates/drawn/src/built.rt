@@ -7,6 +7,7 @@ use message::builder::Built;
 use message::builder::Cursor;
 use message::lister::list;
 use words::numbers::put_u32;
+ghost use mathlib.Core.Path.{_≡_};
 
 fn add_empty(buffer: &mut [u8], cursor: Cursor) -> Built {
     builder::add(buffer, cursor, 1, 0, &[])
@@ -24,7 +25,9 @@ fn add_many(buffer: &mut [u8], first: Built, count: usize) -> Built {
 }
 
 // The largest message: 5,460 tags of 12 bytes, and no room for one more.
-pub fn largest() {
+pub fn largest()
+    ensures { λ r. ⌜ r ≡ tt ⌝ }
+{
     let mut buffer = [0xAAu8; 65540];
     let first = builder::start(&buffer);
     print::built(b"start", first);
@@ -38,7 +41,9 @@ pub fn largest() {
 }
 
 // The same in 65,536 bytes, served.
-pub fn largest_served() {
+pub fn largest_served()
+    ensures { λ r. ⌜ r ≡ tt ⌝ }
+{
     let mut buffer = [0u8; 65536];
     let first = builder::start(&buffer);
     let full = add_many(&mut buffer, first, 5460);
@@ -62,7 +67,9 @@ fn add_pair(buffer: &mut [u8], cursor: Cursor, id: u32, a: u32, b: u32) -> Curso
 }
 
 // The request of 80 bytes that sets 640 x 480 at depth 24, in a buffer of 84 other bytes.
-pub fn screen() {
+pub fn screen()
+    ensures { λ r. ⌜ r ≡ tt ⌝ }
+{
     let mut buffer = [0xAAu8; 84];
     let first = builder::start(&buffer).cursor;
     let physical = add_pair(&mut buffer, first, 0x0004_8003, 640, 480);
@@ -73,7 +80,9 @@ pub fn screen() {
 }
 
 // A call with each cursor, id and value that the builder refuses, and its neighbours that it takes.
-pub fn refusals() {
+pub fn refusals()
+    ensures { λ r. ⌜ r ≡ tt ⌝ }
+{
     let mut buffer = [0u8; 48];
     print::built(b"start in 15", builder::start(&buffer[..15]));
     print::built(b"start in 16", builder::start(&buffer[..16]));

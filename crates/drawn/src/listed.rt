@@ -4,8 +4,11 @@ use message::lister::list;
 use message::opening::Message;
 use message::walk::Tag;
 use words::numbers::put_u32;
+ghost use mathlib.Core.Path.{_≡_};
 
-pub fn cases() {
+pub fn cases()
+    ensures { λ r. ⌜ r ≡ tt ⌝ }
+{
     let lent = [0u8; 12];
     print::listed(b"lent 0", list(&lent[..0], 0));
     print::listed(b"lent 11", list(&lent[..11], 0));

@@ -8,6 +8,7 @@ use console::text;
 use libc::STDIN_FILENO;
 use words::numbers::put_u32;
 use words::numbers::u32_at;
+ghost use mathlib.Core.Path.{_≡_};
 ghost use Prim.Native.Nat.{_<_, _≤_};
 ghost use lib.ListN.{length};
 ghost use Rattle.io.specs.Counts.{Counts};
@@ -101,7 +102,9 @@ fn take_lines(lines: &[u8]) {
     }
 }
 
-pub fn run() {
+pub fn run()
+    ensures { λ r. ⌜ r ≡ tt ⌝ }
+{
     let mut buffer = io::large_buffer();
     let n = io::read_full(STDIN_FILENO, &mut buffer);
     take_lines(&buffer[..n]);

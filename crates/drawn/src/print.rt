@@ -7,8 +7,11 @@ use console::word;
 use message::builder::Built;
 use message::builder::Finished;
 use message::lister::Listed;
+ghost use mathlib.Core.Path.{_≡_};
 
-pub fn listed(name: &[u8], r: Listed) {
+pub fn listed(name: &[u8], r: Listed)
+    ensures { λ r. ⌜ r ≡ tt ⌝ }
+{
     text(name);
     number(b": outcome ", r.outcome as u64);
     number(b" place ", r.place as u64);
@@ -19,7 +22,9 @@ pub fn listed(name: &[u8], r: Listed) {
     text(b"\n");
 }
 
-pub fn built(name: &[u8], r: Built) {
+pub fn built(name: &[u8], r: Built)
+    ensures { λ r. ⌜ r ≡ tt ⌝ }
+{
     let cursor = r.cursor;
     text(name);
     number(b": outcome ", r.outcome as u64);
@@ -28,7 +33,9 @@ pub fn built(name: &[u8], r: Built) {
     text(b"\n");
 }
 
-pub fn finished(name: &[u8], r: Finished) {
+pub fn finished(name: &[u8], r: Finished)
+    ensures { λ r. ⌜ r ≡ tt ⌝ }
+{
     text(name);
     number(b": outcome ", r.outcome as u64);
     number(b" place ", r.place as u64);
@@ -36,7 +43,9 @@ pub fn finished(name: &[u8], r: Finished) {
     text(b"\n");
 }
 
-pub fn served(name: &[u8], outcome: u32, place: usize) {
+pub fn served(name: &[u8], outcome: u32, place: usize)
+    ensures { λ r. ⌜ r ≡ tt ⌝ }
+{
     text(name);
     number(b": outcome ", outcome as u64);
     number(b" place ", place as u64);
@@ -49,7 +58,9 @@ fn size(name: &[u8], size: Size) {
 }
 
 // The settings, and the buffer's base and size.
-pub fn display(d: Display) {
+pub fn display(d: Display)
+    ensures { λ r. ⌜ r ≡ tt ⌝ }
+{
     let settings = d.settings;
     let offset = settings.offset;
     let buffer = d.buffer;

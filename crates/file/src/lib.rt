@@ -1,4 +1,3 @@
 // A message file, served on the bench record.
 pub mod bytes;
-mod disk;
 pub mod serve;

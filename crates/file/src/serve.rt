@@ -1,10 +1,44 @@
-// Serving a file.
+// Serving a file: it is read, served and written back. What fails is said on standard error.
 use crate::bytes::is_rewritten;
 use crate::bytes::serve_bytes;
-use crate::disk::is_at_end;
-use crate::disk::write_back;
 use libc::STDOUT_FILENO;
 use message::opening::Message;
+ghost use mathlib.Core.Path.{_≡_};
+
+// Whether the whole file has been read: nothing follows, and no read fails.
+fn is_at_end(file: i32) -> bool {
+    let mut more = [0u8; 1];
+    libc::read(file, &mut more) == 0
+}
+
+fn write_whole(file: i32, path: &[u8], bytes: &[u8]) -> bool {
+    if io::write_all(file, bytes) {
+        return true;
+    }
+    os::fail(path);
+    false
+}
+
+fn close_written(file: i32, path: &[u8]) -> bool {
+    if libc::close(file) == 0 {
+        return true;
+    }
+    os::fail(path);
+    false
+}
+
+// Writes the bytes over the file's own, as many as it has. The file is never emptied, so that no
+// failure leaves it shorter.
+fn write_back(path: &[u8], bytes: &[u8]) -> bool {
+    let file = os::open_update(path);
+    if file < 0 {
+        os::fail(path);
+        return false;
+    }
+    let written = write_whole(file, path, bytes);
+    let closed = close_written(file, path);
+    written && closed
+}
 
 fn print_line(n: u32) {
     io::print_decimal(STDOUT_FILENO, n as u64);
@@ -41,7 +75,9 @@ fn serve_open(path: &[u8], file: i32) {
 // Serves a message file on the bench record, writes it back in place, and prints the outcome as a
 // line on standard output. A file that cannot be read or written is said on standard error, and
 // prints nothing.
-pub fn serve_file(path: &[u8]) {
+pub fn serve_file(path: &[u8])
+    ensures { λ r. ⌜ r ≡ tt ⌝ }
+{
     let file = os::open_read(path);
     if file < 0 {
         os::fail(path);
