@@ -2,3 +2,4 @@ pub mod Align
 pub mod Decision
 pub mod Kept
 pub mod Operation
+pub mod Told

@@ -10,7 +10,10 @@ use Rattle.board.specs.declared.display.Settings.{Settings}
 use Rattle.board.specs.declared.facts.Span.{Span}
 use Rattle.tags.specs.declared.answer.Answer.{Answer}
 use Rattle.tags.specs.declared.table.FrameTag.{FrameTag}
+use Rattle.tags.specs.declared.table.Kind.{Kind}
+use Rattle.tags.specs.declared.table.Row.{Row}
 use Rattle.tags.specs.declared.table.Setting.{Setting}
+use Rattle.display.specs.declared.answer.Told.{Told}
 use Rattle.display.specs.declared.decision.Decision.{Decision}
 use Rattle.display.specs.declared.operation.Operation.{Operation}
 
@@ -94,3 +97,13 @@ groupAnswer d (FrameTag.Of m s) = settingAnswer s (d .shown)
 groupAnswer d FrameTag.Pitch = Answer.Word (d .pitch)
 groupAnswer d FrameTag.Allocate = Answer.Pair (d .placed .base) (d .placed .size)
 groupAnswer d FrameTag.Release = Answer.Nothing
+
+-- what a tag of this row is told: an answer where it is one of the group
+unfoldable pub toldBy : Decision → Row → Told
+toldBy d (Row.Known (Kind.Frame t) length) = Told.Says (groupAnswer d t)
+toldBy d (Row.Known (Kind.Fact t) length) = Told.Nothing
+toldBy d (Row.Known (Kind.Power t) length) = Told.Nothing
+toldBy d (Row.Known (Kind.Clock t) length) = Told.Nothing
+toldBy d (Row.Known (Kind.Voltage t) length) = Told.Nothing
+toldBy d (Row.Known (Kind.Temperature t) length) = Told.Nothing
+toldBy d Row.Unknown = Told.Nothing

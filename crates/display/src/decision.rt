@@ -6,15 +6,12 @@ use board::facts::Span;
 use board::settings::is_supported;
 use board::settings::need;
 use board::settings::pitch;
-use tags::answer::Answer;
-use tags::table::FrameTag;
-use tags::table::Setting;
 ghost use mathlib.Core.Bool.{true, cond};
 ghost use mathlib.Core.Path.{_≡_};
 ghost use Rattle.words.specs.Round.{roundUp};
 ghost use Rattle.board.specs.Display.{possible, supported};
 ghost use Rattle.board.specs.Valid.{validDisplay};
-ghost use Rattle.display.specs.Decision.{nowhere, oneBit, placedAt, allocatable, fitsBuffer, accepted, showing, mixed, tested, carriedOut, decided, settingAnswer, groupAnswer};
+ghost use Rattle.display.specs.Decision.{nowhere, oneBit, placedAt, allocatable, fitsBuffer, accepted, showing, mixed, tested, carriedOut, decided};
 
 // Whether the group's tags are answered, the settings, the pitch and the buffer that they answer,
 // and the display afterwards.
@@ -184,29 +181,4 @@ pub fn decide(d: Display, o: Operation) -> Decision
         return carry_out(d, o);
     }
     show(d.settings, d)
-}
-
-fn answer_setting(s: Settings, setting: Setting) -> Answer
-    ensures { λ r. ⌜ r ≡ settingAnswer setting s ⌝ }
-{
-    match setting {
-        Setting::Physical => Answer::Pair(s.physical.width, s.physical.height),
-        Setting::Virtual => Answer::Pair(s.logical.width, s.logical.height),
-        Setting::Depth => Answer::Word(s.depth),
-        Setting::Order => Answer::Word(s.order),
-        Setting::Alpha => Answer::Word(s.alpha),
-        Setting::Offset => Answer::Pair(s.offset.x, s.offset.y),
-    }
-}
-
-// What a group tag answers.
-pub fn answer_group(d: Decision, tag: FrameTag) -> Answer
-    ensures { λ r. ⌜ r ≡ groupAnswer d tag ⌝ }
-{
-    match tag {
-        FrameTag::Of(_, setting) => answer_setting(d.shown, setting),
-        FrameTag::Pitch => Answer::Word(d.pitch),
-        FrameTag::Allocate => Answer::Pair(d.placed.base, d.placed.size),
-        FrameTag::Release => Answer::Nothing,
-    }
 }

@@ -1,5 +1,6 @@
 // The table of known tags.
 ghost use mathlib.Core.Path.{_≡_};
+ghost use Prim.Native.Nat.{_<_, _≤_};
 ghost use Rattle.tags.specs.Table.{rowOf};
 
 pub enum FactTag {
@@ -109,6 +110,38 @@ pub fn row_of(id: u32) -> Row
         0x0003_0008 => Row::Known(Kind::Voltage(VoltageTag::Min), 4),
         0x0003_0006 => Row::Known(Kind::Temperature(TemperatureTag::Current), 4),
         0x0003_000a => Row::Known(Kind::Temperature(TemperatureTag::Max), 4),
+        0x0004_0003 => Row::Known(Kind::Frame(FrameTag::Of(Mode::Get, Setting::Physical)), 0),
+        0x0004_4003 => Row::Known(Kind::Frame(FrameTag::Of(Mode::Test, Setting::Physical)), 8),
+        0x0004_8003 => Row::Known(Kind::Frame(FrameTag::Of(Mode::Set, Setting::Physical)), 8),
+        0x0004_0004 => Row::Known(Kind::Frame(FrameTag::Of(Mode::Get, Setting::Virtual)), 0),
+        0x0004_4004 => Row::Known(Kind::Frame(FrameTag::Of(Mode::Test, Setting::Virtual)), 8),
+        0x0004_8004 => Row::Known(Kind::Frame(FrameTag::Of(Mode::Set, Setting::Virtual)), 8),
+        0x0004_0005 => Row::Known(Kind::Frame(FrameTag::Of(Mode::Get, Setting::Depth)), 0),
+        0x0004_4005 => Row::Known(Kind::Frame(FrameTag::Of(Mode::Test, Setting::Depth)), 4),
+        0x0004_8005 => Row::Known(Kind::Frame(FrameTag::Of(Mode::Set, Setting::Depth)), 4),
+        0x0004_0006 => Row::Known(Kind::Frame(FrameTag::Of(Mode::Get, Setting::Order)), 0),
+        0x0004_4006 => Row::Known(Kind::Frame(FrameTag::Of(Mode::Test, Setting::Order)), 4),
+        0x0004_8006 => Row::Known(Kind::Frame(FrameTag::Of(Mode::Set, Setting::Order)), 4),
+        0x0004_0007 => Row::Known(Kind::Frame(FrameTag::Of(Mode::Get, Setting::Alpha)), 0),
+        0x0004_4007 => Row::Known(Kind::Frame(FrameTag::Of(Mode::Test, Setting::Alpha)), 4),
+        0x0004_8007 => Row::Known(Kind::Frame(FrameTag::Of(Mode::Set, Setting::Alpha)), 4),
+        0x0004_0009 => Row::Known(Kind::Frame(FrameTag::Of(Mode::Get, Setting::Offset)), 0),
+        0x0004_4009 => Row::Known(Kind::Frame(FrameTag::Of(Mode::Test, Setting::Offset)), 8),
+        0x0004_8009 => Row::Known(Kind::Frame(FrameTag::Of(Mode::Set, Setting::Offset)), 8),
+        0x0004_0008 => Row::Known(Kind::Frame(FrameTag::Pitch), 0),
+        0x0004_0001 => Row::Known(Kind::Frame(FrameTag::Allocate), 4),
+        0x0004_8001 => Row::Known(Kind::Frame(FrameTag::Release), 0),
+        _ => Row::Unknown,
+    }
+}
+
+// The row of an id from 0x0004_0000 on and below 0x0005_0000, where the frame buffer group stands.
+// No entry point: a smaller lookup, for the walk over the group's tags.
+pub fn frame_row(id: u32) -> Row
+    requires { ⌜ (0x0004_0000 ≤ id) × (id < 0x0005_0000) ⌝ }
+    ensures { λ r. ⌜ r ≡ rowOf id ⌝ }
+{
+    match id {
         0x0004_0003 => Row::Known(Kind::Frame(FrameTag::Of(Mode::Get, Setting::Physical)), 0),
         0x0004_4003 => Row::Known(Kind::Frame(FrameTag::Of(Mode::Test, Setting::Physical)), 8),
         0x0004_8003 => Row::Known(Kind::Frame(FrameTag::Of(Mode::Set, Setting::Physical)), 8),
