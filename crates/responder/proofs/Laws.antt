@@ -8,5 +8,7 @@ pub mod Follows
 pub mod Written
 pub mod Twice
 pub mod Group
-pub mod Sweeping
+pub mod Concluding
+pub mod Progress
+pub mod Answering
 pub mod Responding

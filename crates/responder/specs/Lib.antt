@@ -3,3 +3,4 @@ pub mod Answers
 pub mod Reply
 pub mod Ask
 pub mod Serve
+pub mod Progress

@@ -1,5 +1,7 @@
 // The responder: the emulated board serves a message.
 pub mod ask;
+pub mod carry;
 pub mod group;
+pub mod lead;
+pub mod progress;
 pub mod respond;
-pub mod serve;

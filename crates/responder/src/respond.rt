@@ -1,20 +1,22 @@
 // Serving a message.
-use crate::serve::serve;
+use crate::carry::carry_on;
+use crate::group::conclude;
+use crate::lead::lead;
+use crate::progress::Progress;
 use board::record::Board;
 use board::valid::is_valid;
+use display::operation::start;
 use message::opening::Message;
 use message::opening::Opened;
 use message::opening::open;
 use message::outcome;
-use words::numbers::put_u32;
 use words::numbers::u32_at;
-ghost use mathlib.Core.Bool.{true};
+ghost use mathlib.Core.Bool.{true, false};
 ghost use mathlib.Core.Path.{_≡_};
 ghost use Rattle.message.specs.Builder.{leaves};
-ghost use Rattle.message.specs.Sizes.{header};
-ghost use Rattle.message.specs.Walk.{Walking};
-ghost use Rattle.board.specs.Valid.{valid};
-ghost use Rattle.responder.specs.Reply.{codeOf, served, reply};
+ghost use Rattle.display.specs.Operation.{unasked};
+ghost use Rattle.responder.specs.Progress.{Begun, Ready, Finished};
+ghost use Rattle.responder.specs.Reply.{reply};
 
 // How a message was served, and the record afterwards.
 pub struct Served {
@@ -23,40 +25,23 @@ pub struct Served {
     pub board: Board,
 }
 
-fn refused(outcome: u32, board: Board) -> Served
-    ensures { λ r. ⌜ r ≡ record { outcome = outcome; place = 0; board = board } ⌝ }
+fn refused(outcome: u32, board: Board) -> Progress
+    ensures { λ r. ⌜ r ≡ record { refused = true; outside = false; outcome = outcome; place = 0; size = 0; operation = unasked (board .display .settings) } ⌝ }
 {
-    Served {
+    let display = board.display;
+    Progress {
+        refused: true,
+        outside: false,
         outcome,
         place: 0,
-        board,
+        size: 0,
+        operation: start(display.settings),
     }
 }
 
-fn code_of(outcome: u32) -> u32
-    ensures { λ r. ⌜ r ≡ codeOf outcome ⌝ }
-{
-    if outcome == outcome::DONE {
-        0x8000_0000
-    } else {
-        0x8000_0001
-    }
-}
-
-// Serves an opened request of `size` bytes on a valid record.
-fn serve_opened(board: Board, msg: &mut [u8], size: usize) -> Served
-    requires { ⌜ (Walking (now msg) size header) × (valid board ≡ true) ⌝ }
-    ensures { λ r. ⌜ leaves (now (msg .exit)) r ≡ served board (now (msg .entry)) size ⌝ }
-{
-    let after = serve(msg, size, board);
-    put_u32(msg, Message::CODE, code_of(after.outcome));
-    after
-}
-
-// Serves the message that the lent bytes hold, and rewrites it in place. Any bytes and any record
-// get an outcome; a refusal leaves both as they were.
-pub fn respond(board: Board, msg: &mut [u8]) -> Served
-    ensures { λ r. ⌜ leaves (now (msg .exit)) r ≡ reply board (now (msg .entry)) ⌝ }
+// Begins with a message: refuses it, or walks the tags that lead it. Nothing is written.
+pub fn begin(board: Board, msg: &mut [u8]) -> Progress
+    ensures { λ r. ⌜ (Begun board (now (msg .exit)) r) × (now (msg .exit) ≡ now (msg .entry)) ⌝ }
 {
     if !is_valid(board) {
         return refused(outcome::INVALID_BOARD, board);
@@ -69,7 +54,35 @@ pub fn respond(board: Board, msg: &mut [u8]) -> Served
             if code != 0 {
                 return refused(outcome::NOT_REQUEST, board);
             }
-            serve_opened(board, msg, message.size)
+            lead(msg, message.size, board)
         }
     }
+}
+
+// Concludes a message, and gives how it was served.
+fn finish(board: Board, msg: &mut [u8], progress: Progress) -> Served
+    requires { ⌜ Ready board (now msg) progress ⌝ }
+    ensures { λ r. ⌜ Finished board (now (msg .entry)) (now (msg .exit)) progress r ⌝ }
+{
+    let shown = conclude(board, msg, progress);
+    let mut b = board;
+    b.display = shown;
+    Served {
+        outcome: progress.outcome,
+        place: progress.place,
+        board: b,
+    }
+}
+
+// Serves the message that the lent bytes hold, and rewrites it in place. Any bytes and any record
+// get an outcome; a refusal leaves both as they were.
+pub fn respond(board: Board, msg: &mut [u8]) -> Served
+    ensures { λ r. ⌜ leaves (now (msg .exit)) r ≡ reply board (now (msg .entry)) ⌝ }
+{
+    let begun = begin(board, msg);
+    if begun.outside {
+        let carried = carry_on(board, msg, begun);
+        return finish(carried.board, msg, carried.progress);
+    }
+    finish(board, msg, begun)
 }

@@ -15,11 +15,14 @@ use Rattle.tags.proofs.Laws.Rows.{row-words}
 use Rattle.tags.specs.Place.{placeOf, Placed}
 use Rattle.tags.specs.Table.{rowOf}
 use Rattle.tags.specs.declared.place.Place.{Place}
+use Rattle.tags.specs.declared.table.FrameTag.{FrameTag}
 use Rattle.tags.specs.declared.table.Kind.{Kind}
 use Rattle.tags.specs.declared.table.Row.{Row}
 use Rattle.responder.specs.Ask.{kindAsk, askOf, Within, Named, InMessage, RequestFits}
+use Rattle.responder.specs.Progress.{Leads}
 use Rattle.responder.specs.Requests.{requestBy, requestOf, valueOf}
 use Rattle.responder.specs.declared.ask.Ask.{Ask}
+use Rattle.responder.specs.declared.lead.GroupAsk.{GroupAsk}
 
 -- ---- an item's ask, by its place
 module _ (f : Place → Ask) {id first count : ℕ} {r : Place} (p : Placed id first count r) where
@@ -46,6 +49,9 @@ module _ (m : List ℕ) (t : Tag) where
   unfolding requestOf requestBy askOf
   ask-response h = record { is = rw (le-leb 0x8000_0000 (t .word) h); within = tt }
 
+  pub group-response : 0x8000_0000 ≤ t .word → Leads GroupAsk.Pass (askOf (requestOf m t))
+  group-response h = sym (ask-response h .is)
+
   module _ (h : t .word < 0x8000_0000) {row : Row} (er : row ≡ rowOf (t .id)) where
     request-is : requestOf m t ≡ requestBy false row (t .size) (valueOf m t)
     unfolding requestOf
@@ -54,6 +60,9 @@ module _ (m : List ℕ) (t : Tag) where
     pub ask-unknown : row ≡ Row.Unknown → Named (askOf (requestOf m t)) Ask.Pass
     unfolding requestBy askOf
     ask-unknown e = record { is = rw (request-is, e); within = tt }
+
+    pub group-unknown : row ≡ Row.Unknown → Leads GroupAsk.Pass (askOf (requestOf m t))
+    group-unknown e = sym (ask-unknown e .is)
 
     module _ {kind : Kind} {count : ℕ} (e : row ≡ Row.Known kind count) where
       pub ask-short : t .size < count → Named (askOf (requestOf m t)) Ask.Short
@@ -68,3 +77,13 @@ module _ (m : List ℕ) (t : Tag) where
       unfolding requestBy askOf
       ask-known l ea ex n =
           record { is = n .is ∙ rw (request-is, e, le-ltb (t .size) count l, take-take count (t .size) (drop (t .at + tagHeader) m) l, ← ea, ← ex); within = n .within }
+
+      pub group-short : t .size < count → Leads GroupAsk.Short (askOf (requestOf m t))
+      group-short l = sym (ask-short l .is)
+
+      pub group-known : {frame : FrameTag} → kind ≡ Kind.Frame frame → count ≤ t .size → {a x : ℕ} → a ≡ word (take count (drop (t .at + tagHeader) m)) 0 → x ≡ word (take count (drop (t .at + tagHeader) m)) 4
+          → Leads (GroupAsk.Frame frame a x) (askOf (requestOf m t))
+      unfolding kindAsk
+      group-known {frame} ek l {a} {x} ea ex =
+          let n : Named (kindAsk kind a x) (Ask.Frame frame a x) = record { is = rw ek; within = tt } in
+          sym (ask-known l ea ex n .is)

@@ -17,7 +17,7 @@ use Rattle.tags.specs.declared.answer.Answer.{Answer}
 use Rattle.tags.specs.declared.table.Kind.{Kind}
 use Rattle.display.specs.Decision.{groupAnswer}
 use Rattle.display.specs.declared.decision.Decision.{Decision}
-use Rattle.responder.specs.Answers.{Said, silent, says, first, second, saidBy, afterBy, answers}
+use Rattle.responder.specs.Answers.{Said, silent, says, first, second, saidBy, afterBy, answers, after}
 use Rattle.responder.specs.Requests.{Request, passed, short, asks}
 
 answer-short : (f : Facts) (line : List ℕ) (a : Answer) → length (f .mac) ≡ 6 → f .characters ≤ 256 → length (answerBytes f line a) < 2 ^ 31
@@ -59,6 +59,22 @@ after-facts b (asks (Kind.Power t) bytes) = refl
 after-facts b (asks (Kind.Clock t) bytes) = refl
 after-facts b (asks (Kind.Voltage t) bytes) = refl
 after-facts b (asks (Kind.Temperature t) bytes) = refl
+
+-- nor does the display, before the group is carried out
+after-display-by : (b : Board) (r : Request) → afterBy b r .display ≡ b .display
+unfolding afterBy outsideAfter
+after-display-by b passed = refl
+after-display-by b short = refl
+after-display-by b (asks (Kind.Frame t) bytes) = refl
+after-display-by b (asks (Kind.Fact t) bytes) = refl
+after-display-by b (asks (Kind.Power t) bytes) = refl
+after-display-by b (asks (Kind.Clock t) bytes) = refl
+after-display-by b (asks (Kind.Voltage t) bytes) = refl
+after-display-by b (asks (Kind.Temperature t) bytes) = refl
+
+pub after-display : (b : Board) (rs : List Request) → after b rs .display ≡ b .display
+after-display b [] = refl
+after-display b (r ∷ rs) = after-display (afterBy b r) rs ∙ after-display-by b r
 
 abbrev pub Short : List Said → Type 0
 Short [] = Unit {0}

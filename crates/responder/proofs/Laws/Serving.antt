@@ -1,4 +1,4 @@
--- The loop of the writing pass: what is written from p on, with the present message and record, is what is written of the whole. Behind p the message is as it came.
+-- One turn of a walk: a law for each thing that a tag can ask.
 use mathlib.Core.Bool.{Bool, true, false, cond}
 use mathlib.Core.List.{List, [], _∷_, _++_}
 use mathlib.Core.Path.{_≡_, refl, sym, ap, _∙_, subst}
@@ -47,29 +47,13 @@ use Rattle.responder.proofs.Laws.Written.{written-length, written-behin
 use Rattle.responder.specs.Answers.{silent, says, noteBy, operation, saidBy, afterBy, after}
 use Rattle.responder.specs.Ask.{askOf, Named, InMessage, saidOf, afterOf, noteOf}
 use Rattle.responder.specs.Reply.{written}
+use Rattle.responder.specs.Progress.{Ahead, Through}
 use Rattle.responder.specs.Requests.{Request, short, requestOf, Trail, ends, goesOn, cutBy, trail}
 use Rattle.responder.specs.Serve.{bytesOf}
 use Rattle.responder.specs.declared.ask.Ask.{Ask}
 
 -- ---- one walk
--- what a walk with the group g has left, and found: the message, the record, how it ends; and where the group is not answered, its operation
-pub record Walked (g : Decision) (m₀ : List ℕ) (size : ℕ) (b₀ : Board) (m : List ℕ) (b : Board) (o : Operation) (e : Ending) : Type 0 where
-  pub bytes : m ≡ bytesOf g b₀ (trail m₀ size header) m₀
-  pub board : b ≡ after b₀ (trail m₀ size header .requests)
-  pub ending : e ≡ trail m₀ size header .ending
-  pub noted : g .answered ≡ false → o ≡ operation (unasked (b₀ .display .settings)) (trail m₀ size header .requests)
-
-pub record Serving (g : Decision) (m₀ : List ℕ) (size : ℕ) (b₀ : Board) (m : List ℕ) (b : Board) (o : Operation) (p : ℕ) : Type 0 where
-  pub walking : Walking m size p
-  pub same : length m ≡ length m₀
-  pub rest : drop p m ≡ drop p m₀
-  pub bytes : bytesOf g b (trail m₀ size p) m ≡ bytesOf g b₀ (trail m₀ size header) m₀
-  pub board : after b (trail m₀ size p .requests) ≡ after b₀ (trail m₀ size header .requests)
-  pub ending : trail m₀ size p .ending ≡ trail m₀ size header .ending
-  pub noted : g .answered ≡ false → operation o (trail m₀ size p .requests) ≡ operation (unasked (b₀ .display .settings)) (trail m₀ size header .requests)
-  pub line : length (b .line) ≤ 256
-
-pub again-start : (g : Decision) (m₀ : List ℕ) (size : ℕ) (b₀ : Board) {o : Operation} → g .answered ≡ true → Walking m₀ size header → length (b₀ .line) ≤ 256 → Serving g m₀ size b₀ m₀ b₀ o header
+pub again-start : (g : Decision) (m₀ : List ℕ) (size : ℕ) (b₀ : Board) {o : Operation} → g .answered ≡ true → Walking m₀ size header → length (b₀ .line) ≤ 256 → Ahead g m₀ size b₀ m₀ b₀ o header
 again-start g m₀ size b₀ y w l = record {
   walking = w;
   same = refl;
@@ -82,7 +66,7 @@ again-start g m₀ size b₀ y w l = record {
 }
 
 pub serve-start : (g : Decision) (m₀ : List ℕ) (size : ℕ) (b₀ : Board) {o : Operation} → Walking m₀ size header → o ≡ unasked (b₀ .display .settings) → length (b₀ .line) ≤ 256
-    → Serving g m₀ size b₀ m₀ b₀ o header
+    → Ahead g m₀ size b₀ m₀ b₀ o header
 serve-start g m₀ size b₀ w e l = record {
   walking = w;
   same = refl;
@@ -94,20 +78,21 @@ serve-start g m₀ size b₀ w e l = record {
   line = l;
 }
 
-module _ (g : Decision) (m₀ : List ℕ) (size : ℕ) (b₀ : Board) (m : List ℕ) (b : Board) (o : Operation) (p : ℕ) (h : Serving g m₀ size b₀ m b o p) {st : Step} (es : st ≡ step m size p) where
+module _ (g : Decision) (m₀ : List ℕ) (size : ℕ) (b₀ : Board) (m : List ℕ) (b : Board) (o : Operation) (p : ℕ) (h : Ahead g m₀ size b₀ m b o p) {st : Step} (es : st ≡ step m size p) where
   es₀ : step m₀ size p ≡ st
   es₀ = sym (step-same m m₀ size p (h .rest)) ∙ sym es
 
   -- where the trail ends, all is written
-  ends-here : {e : Ending} → trail m₀ size p ≡ ends e → Walked g m₀ size b₀ m b o e
+  ends-here : {e : Ending} → trail m₀ size p ≡ ends e → Through g m₀ size b₀ m b o e
   ends-here e = record {
+    same = h .same;
     bytes = ap (λ (x : Trail). bytesOf g b x m) (sym e) ∙ h .bytes;
     board = ap (λ (x : Trail). after b (x .requests)) (sym e) ∙ h .board;
     ending = ap (λ (x : Trail). x .ending) (sym e) ∙ h .ending;
     noted = λ a. ap (λ (x : Trail). operation o (x .requests)) (sym e) ∙ h .noted a;
   }
 
-  pub serve-stop : OneOf (1 ∷ 2 ∷ []) (tagOf Step.the-type st) → {e : Ending} → e ≡ endingOf st → Walked g m₀ size b₀ m b o e
+  pub serve-stop : OneOf (1 ∷ 2 ∷ []) (tagOf Step.the-type st) → {e : Ending} → e ≡ endingOf st → Through g m₀ size b₀ m b o e
   serve-stop k ee = ends-here (trail-stop m₀ size p st k es₀ ∙ ap ends (sym ee))
 
   module _ {t : Tag} {next : ℕ} (et : st ≡ Step.Tag t next) where
@@ -133,14 +118,14 @@ module _ (g : Decision) (m₀ : List ℕ) (size : ℕ) (b₀ : Board) (m : List 
       q₀ : q ≡ askOf (requestOf m₀ t)
       q₀ = nq .is ∙ ap askOf request₀
 
-      pub serve-short : q ≡ Ask.Short → Walked g m₀ size b₀ m b o (record { outcome = shortRequest; place = p })
+      pub serve-short : q ≡ Ask.Short → Through g m₀ size b₀ m b o (record { outcome = shortRequest; place = p })
       serve-short e =
           let f = here in
           let r : requestOf m₀ t ≡ short = short-asks (requestOf m₀ t) (sym q₀ ∙ e) in
           ends-here (trail-tag m₀ size p (es₀ ∙ et) ∙ ap (λ (x : Request). cutBy x t (trail m₀ size next)) r ∙ ap (λ (x : ℕ). ends (record { outcome = shortRequest; place = x })) (f .at))
 
       serve-on : (q ≡ Ask.Short → ⊥) → {m′ : List ℕ} {b′ : Board} {o′ : Operation} → m′ ≡ written t (saidOf g b q) m → b′ ≡ afterOf b q → (g .answered ≡ false → o′ ≡ noteOf q o)
-          → Serving g m₀ size b₀ m′ b′ o′ next
+          → Ahead g m₀ size b₀ m′ b′ o′ next
       unfolding askOf
       serve-on n {m′} {b′} {o′} em eb eo =
           let f = here in
@@ -170,47 +155,47 @@ module _ (g : Decision) (m₀ : List ℕ) (size : ℕ) (b₀ : Board) (m : List 
       not-short : {x : Ask} → q ≡ x → (x ≡ Ask.Short → ⊥) → q ≡ Ask.Short → ⊥
       not-short e n z = n (sym e ∙ z)
 
-      pub serve-pass : q ≡ Ask.Pass → Serving g m₀ size b₀ m b o next
+      pub serve-pass : q ≡ Ask.Pass → Ahead g m₀ size b₀ m b o next
       unfolding saidOf afterOf
       serve-pass e = serve-on (not-short e (λ z. let c : _≡_ {A = ℕ} 0 1 = cc in omega arith)) (rw e) (rw e) (λ z. rw e)
 
       module _ {m′ : List ℕ} {a n : ℕ} (em : m′ ≡ answered (t .at) (t .size) (le 4 a ++ le 4 n) m) where
-        pub serve-fixed : q ≡ Ask.Fixed a n → Serving g m₀ size b₀ m′ b o next
+        pub serve-fixed : q ≡ Ask.Fixed a n → Ahead g m₀ size b₀ m′ b o next
         unfolding saidOf afterOf
         serve-fixed e = serve-on (not-short e (λ z. let c : _≡_ {A = ℕ} 0 1 = cc in omega arith)) (rw e em) (rw e) (λ z. rw e)
 
         pub serve-power : {k : PowerTag} {i x : ℕ} {d : Device} → q ≡ Ask.Power k i a x → d ≡ powerAfter k x (getD (b .devices) i noDevice) → n ≡ powerValue k d
-            → Serving g m₀ size b₀ m′ (withDevices b (set (b .devices) i d)) o next
+            → Ahead g m₀ size b₀ m′ (withDevices b (set (b .devices) i d)) o next
         unfolding saidOf afterOf
         serve-power e ed en = serve-on (not-short e (λ z. let c : _≡_ {A = ℕ} 0 1 = cc in omega arith)) (rw (e, ← ed, ← en) em) (rw (e, ← ed)) (λ z. rw e)
 
         pub serve-clock : {k : ClockTag} {i x : ℕ} {c : Clock} → q ≡ Ask.Clock k i a x → c ≡ clockAfter k x (getD (b .clocks) i noClock) → n ≡ clockValue k c
-            → Serving g m₀ size b₀ m′ (withClocks b (set (b .clocks) i c)) o next
+            → Ahead g m₀ size b₀ m′ (withClocks b (set (b .clocks) i c)) o next
         unfolding saidOf afterOf
         serve-clock e ec en = serve-on (not-short e (λ z. let c : _≡_ {A = ℕ} 0 1 = cc in omega arith)) (rw (e, ← ec, ← en) em) (rw (e, ← ec)) (λ z. rw e)
 
         pub serve-voltage : {k : VoltageTag} {i x : ℕ} {v : Voltage} → q ≡ Ask.Voltage k i a x → v ≡ voltageAfter k x (getD (b .voltages) i noVoltage) → n ≡ voltageValue k v
-            → Serving g m₀ size b₀ m′ (withVoltages b (set (b .voltages) i v)) o next
+            → Ahead g m₀ size b₀ m′ (withVoltages b (set (b .voltages) i v)) o next
         unfolding saidOf afterOf
         serve-voltage e ev en = serve-on (not-short e (λ z. let c : _≡_ {A = ℕ} 0 1 = cc in omega arith)) (rw (e, ← ev, ← en) em) (rw (e, ← ev)) (λ z. rw e)
 
-        pub serve-temperature : {k : TemperatureTag} → q ≡ Ask.Temperature k a → n ≡ temperatureValue k a (b .temperature) → Serving g m₀ size b₀ m′ b o next
+        pub serve-temperature : {k : TemperatureTag} → q ≡ Ask.Temperature k a → n ≡ temperatureValue k a (b .temperature) → Ahead g m₀ size b₀ m′ b o next
         unfolding saidOf afterOf
         serve-temperature e en = serve-on (not-short e (λ z. let c : _≡_ {A = ℕ} 0 1 = cc in omega arith)) (rw (e, ← en) em) (rw e) (λ z. rw e)
 
       module _ {m′ : List ℕ} {x : Answer} (em : m′ ≡ answered (t .at) (t .size) (answerBytes (b .facts) (b .line) x) m) where
-        pub serve-fact : {k : FactTag} → q ≡ Ask.Fact k → x ≡ factAnswer k (b .facts) → Serving g m₀ size b₀ m′ b o next
+        pub serve-fact : {k : FactTag} → q ≡ Ask.Fact k → x ≡ factAnswer k (b .facts) → Ahead g m₀ size b₀ m′ b o next
         unfolding saidOf afterOf
         serve-fact e ex = serve-on (not-short e (λ z. let c : _≡_ {A = ℕ} 0 1 = cc in omega arith)) (rw (e, ← ex) em) (rw e) (λ z. rw e)
 
-        pub serve-frame : {k : FrameTag} {a c : ℕ} → q ≡ Ask.Frame k a c → g .answered ≡ true → x ≡ groupAnswer g k → Serving g m₀ size b₀ m′ b o next
+        pub serve-frame : {k : FrameTag} {a c : ℕ} → q ≡ Ask.Frame k a c → g .answered ≡ true → x ≡ groupAnswer g k → Ahead g m₀ size b₀ m′ b o next
         unfolding saidOf afterOf
         serve-frame {k} e ga ex =
             serve-on (not-short e (λ z. let c : _≡_ {A = ℕ} 0 1 = cc in omega arith))
             (rw e (em ∙ ap (λ (y : Answer). answered (t .at) (t .size) (answerBytes (b .facts) (b .line) y) m) ex
             ∙ ap (λ (y : Bool). written t (cond y (says (answerBytes (b .facts) (b .line) (groupAnswer g k))) silent) m) (sym ga))) (rw e) (λ z. let c : true ≡ false = sym ga ∙ z in let d : _≡_ {A = ℕ} 0 1 = cc in absurd (omega arith))
 
-      pub serve-left : {k : FrameTag} {a c : ℕ} {o′ : Operation} → q ≡ Ask.Frame k a c → g .answered ≡ false → o′ ≡ noted k a c o → Serving g m₀ size b₀ m b o′ next
+      pub serve-left : {k : FrameTag} {a c : ℕ} {o′ : Operation} → q ≡ Ask.Frame k a c → g .answered ≡ false → o′ ≡ noted k a c o → Ahead g m₀ size b₀ m b o′ next
       unfolding saidOf afterOf
       serve-left e ga eo = serve-on (not-short e (λ z. let c : _≡_ {A = ℕ} 0 1 = cc in omega arith)) (rw (e, ga)) (rw e) (λ z. rw e eo)
 

@@ -30,6 +30,7 @@ use Rattle.responder.proofs.Laws.Trails.{trail-tag, request-same}
 use Rattle.responder.proofs.Laws.Written.{answered-word, written-length, written-behind, writes-before, cut-writes, reworded}
 use Rattle.responder.specs.Answers.{Said, silent, says, saidBy, afterBy, answers, after}
 use Rattle.responder.specs.Ask.{askOf}
+use Rattle.responder.specs.Progress.{OnlyGroup}
 use Rattle.responder.specs.Reply.{written, writeAll}
 use Rattle.responder.specs.Requests.{Request, passed, short, asks, requestBy, requestOf, Trail, ends, goesOn, cutBy, cut, trail}
 use Rattle.responder.specs.Serve.{bytesOf}
@@ -93,17 +94,17 @@ unfolding requestOf requestBy
 answered-passed m t h = rw (le-leb 0x8000_0000 (t .word) h)
 
 -- two records with the same facts and the same command line
-pub record Alike (b b₁ : Board) : Type 0 where
+pub record SameFixed (b b₁ : Board) : Type 0 where
   pub facts : b₁ .facts ≡ b .facts
   pub line : b₁ .line ≡ b .line
 
 line-same : (b : Board) (r : Request) → afterBy b r .line ≡ b .line
 line-same b r = ap (λ (x : Board). x .line) (after-is b r) ∙ after-line b (askOf r)
 
-pub after-alike : (b : Board) (rs : List Request) → Alike b (after b rs)
-after-alike b [] = record { facts = refl; line = refl }
-after-alike b (r ∷ rs) =
-    let h = after-alike (afterBy b r) rs in
+pub after-fixed : (b : Board) (rs : List Request) → SameFixed b (after b rs)
+after-fixed b [] = record { facts = refl; line = refl }
+after-fixed b (r ∷ rs) =
+    let h = after-fixed (afterBy b r) rs in
     record { facts = h .facts ∙ after-facts b r; line = h .line ∙ line-same b r }
 
 -- what the second walk of m₁ on b₁ leaves is what one walk of m on b would have
@@ -111,6 +112,7 @@ pub record Twice (g : Decision) (b b₁ : Board) (tr : Trail) (m : List ℕ) (tr
   pub bytes : bytesOf g b₁ tr₁ m₁ ≡ bytesOf g b tr m
   pub board : after b₁ (tr₁ .requests) ≡ b₁
   pub ending : tr₁ .ending ≡ tr .ending
+  pub only : OnlyGroup (tr₁ .requests)
 
 module _ (g₀ g : Decision) (size : ℕ) where
   -- the message as the first walk leaves it
@@ -144,6 +146,7 @@ module _ (g₀ g : Decision) (size : ℕ) where
           bytes = ap (λ (z : Trail). bytesOf g b₁ z x) tr ∙ ih₁ .bytes ∙ ap (λ (s : Said). bytesOf g (afterBy b r) (trail m size q) (written t s m)) es;
           board = ap (λ (z : Trail). after b₁ (z .requests)) tr ∙ ih₁ .board;
           ending = ap (λ (z : Trail). z .ending) tr ∙ ih₁ .ending;
+          only = subst (λ (z : Trail). OnlyGroup (z .requests)) (sym tr) (ih₁ .only);
         }
 
     -- a group tag: the first walk leaves it, the second writes what one would have
@@ -151,11 +154,12 @@ module _ (g₀ g : Decision) (size : ℕ) where
         → saidBy g₀ b r ≡ silent
         → saidBy g b₁ r ≡ saidBy g b r
         → ((x : Board) → afterBy x r ≡ x)
+        → ((rs : List Request) → OnlyGroup rs → OnlyGroup (r ∷ rs))
         → step (swept ts b (trail m size q) m) size p ≡ Step.Tag t q
         → cutBy (requestOf (swept ts b (trail m size q) m) t) t (trail (swept ts b (trail m size q) m) size q) ≡ goesOn t r (trail (swept ts b (trail m size q) m) size q)
         → Goal ts b b₁ q (trail (written t (saidBy g b₁ r) m) size q) (written t (saidBy g b₁ r) m)
         → Goal (t ∷ ts) b b₁ p (goesOn t r (trail m size q)) m
-    group r b b₁ es ev ea e₁ er ih =
+    group r b b₁ es ev ea eo e₁ er ih =
         let f = found m size p st in
         let v = saidBy g b₁ r in
         let rs = trail m size q .requests in
@@ -179,11 +183,12 @@ module _ (g₀ g : Decision) (size : ℕ) where
               ∙ ap (λ (y : Board). bytesOf g y (trail m size q) (written t (saidBy g b r) m)) (sym (ea b));
           board = ap (λ (z : Trail). after b₁ (z .requests)) tr ∙ ap (λ (y : Board). after y (trail x size q .requests)) (ea b₁) ∙ ih₂ .board;
           ending = ap (λ (z : Trail). z .ending) tr ∙ ih₂ .ending;
+          only = subst (λ (z : Trail). OnlyGroup (z .requests)) (sym tr) (eo (trail x size q .requests) (ih₂ .only));
         })
 
     -- ---- one tag, the others behind it
-    module _ (quiet : g₀ .answered ≡ false) (b b₁ : Board) (six : length (b .facts .mac) ≡ 6) (few : b .facts .characters ≤ 256) (al : Alike b b₁)
-        (ih : (m′ : List ℕ) (b′ : Board) → Follows m′ size q ts e → size ≤ length m′ → length (b′ .facts .mac) ≡ 6 → b′ .facts .characters ≤ 256 → Alike b′ b₁ → Goal ts b′ b₁ q (trail m′ size q) m′) where
+    module _ (quiet : g₀ .answered ≡ false) (b b₁ : Board) (six : length (b .facts .mac) ≡ 6) (few : b .facts .characters ≤ 256) (al : SameFixed b b₁)
+        (ih : (m′ : List ℕ) (b′ : Board) → Follows m′ size q ts e → size ≤ length m′ → length (b′ .facts .mac) ≡ 6 → b′ .facts .characters ≤ 256 → SameFixed b′ b₁ → Goal ts b′ b₁ q (trail m′ size q) m′) where
       next : (r : Request) (s : Said) → Goal ts (afterBy b r) b₁ q (trail (written t s m) size q) (written t s m)
       next r s =
           let f = found m size p st in
@@ -217,7 +222,7 @@ module _ (g₀ g : Decision) (size : ℕ) where
       frame {k} {bytes} er =
           let ss = answers g₀ b (trail m size q .requests) in
           let r = asks (Kind.Frame k) bytes in
-          group r b b₁ (rw quiet) (rw (al .facts, al .line)) (λ (x : Board). refl) (kept-step ss)
+          group r b b₁ (rw quiet) (rw (al .facts, al .line)) (λ (x : Board). refl) (λ (rs : List Request) (h : OnlyGroup rs). h) (kept-step ss)
           (ap (λ (z : Request). cutBy z t (trail (writeAll ts ss m) size q)) (kept-request ss ∙ er)) (next r (saidBy g b₁ r))
 
       at-tag : (r : Request) → requestOf m t ≡ r → Goal (t ∷ ts) b b₁ p (cutBy r t (trail m size q)) m
@@ -227,7 +232,7 @@ module _ (g₀ g : Decision) (size : ℕ) where
           over passed b b₁ refl (kept-step ss) (kept-request ss ∙ er) (next passed silent)
       at-tag short er =
           let tr : trail m size p ≡ cutBy short t (trail m size q) = trail-tag m size p st ∙ ap (λ (z : Request). cutBy z t (trail m size q)) er in
-          record { bytes = ap (λ (z : Trail). bytesOf g b₁ z m) tr; board = ap (λ (z : Trail). after b₁ (z .requests)) tr; ending = ap (λ (z : Trail). z .ending) tr }
+          record { bytes = ap (λ (z : Trail). bytesOf g b₁ z m) tr; board = ap (λ (z : Trail). after b₁ (z .requests)) tr; ending = ap (λ (z : Trail). z .ending) tr; only = subst (λ (z : Trail). OnlyGroup (z .requests)) (sym tr) tt }
       at-tag (asks (Kind.Frame k) bytes) er = frame er
       at-tag (asks (Kind.Fact k) bytes) er = outside (asks (Kind.Fact k) bytes) _ refl refl
       at-tag (asks (Kind.Power k) bytes) er = outside (asks (Kind.Power k) bytes) _ refl refl
@@ -235,18 +240,18 @@ module _ (g₀ g : Decision) (size : ℕ) where
       at-tag (asks (Kind.Voltage k) bytes) er = outside (asks (Kind.Voltage k) bytes) _ refl refl
       at-tag (asks (Kind.Temperature k) bytes) er = outside (asks (Kind.Temperature k) bytes) _ refl refl
 
-  twice-from : (ts : List Tag) (e : Ending) (m : List ℕ) (p : ℕ) (b b₁ : Board) → g₀ .answered ≡ false → Follows m size p ts e → size ≤ length m → length (b .facts .mac) ≡ 6 → b .facts .characters ≤ 256 → Alike b b₁
+  twice-from : (ts : List Tag) (e : Ending) (m : List ℕ) (p : ℕ) (b b₁ : Board) → g₀ .answered ≡ false → Follows m size p ts e → size ≤ length m → length (b .facts .mac) ≡ 6 → b .facts .characters ≤ 256 → SameFixed b b₁
       → Goal ts b b₁ p (trail m size p) m
   unfolding trail
   twice-from [] e m p b b₁ quiet h l six few al =
       let tr : trail m size p ≡ ends e = ap (λ (w : Walk). cut m (w .tags) (w .ending)) (follows-walk m size p [] e h) in
-      record { bytes = ap (λ (z : Trail). bytesOf g b₁ z m) tr ∙ ap (λ (z : Trail). bytesOf g b z m) (sym tr); board = ap (λ (z : Trail). after b₁ (z .requests)) tr; ending = refl }
+      record { bytes = ap (λ (z : Trail). bytesOf g b₁ z m) tr ∙ ap (λ (z : Trail). bytesOf g b z m) (sym tr); board = ap (λ (z : Trail). after b₁ (z .requests)) tr; ending = refl; only = subst (λ (z : Trail). OnlyGroup (z .requests)) (sym tr) tt }
   twice-from (t ∷ ts) e m p b b₁ quiet h l six few al =
       subst (λ (z : Trail). Goal (t ∷ ts) b b₁ p z m) (sym (trail-tag m size p (h .1)))
       (at-tag t ts e m p (h .0) (h .1) (h .2) l quiet b b₁ six few al (λ m′ b′ f′ l′ s′ w′ a′. twice-from ts e m′ (h .0) b′ b₁ quiet f′ l′ s′ w′ a′) (requestOf m t) refl)
 
 -- a message walked once with its group left alone, and once more, is one walk's
-pub twice : (g₀ g : Decision) (m : List ℕ) (size : ℕ) (b b₁ : Board) → g₀ .answered ≡ false → size ≤ length m → length (b .facts .mac) ≡ 6 → b .facts .characters ≤ 256 → Alike b b₁
+pub twice : (g₀ g : Decision) (m : List ℕ) (size : ℕ) (b b₁ : Board) → g₀ .answered ≡ false → size ≤ length m → length (b .facts .mac) ≡ 6 → b .facts .characters ≤ 256 → SameFixed b b₁
     → {m₁ : List ℕ} → m₁ ≡ bytesOf g₀ b (trail m size header) m → Twice g b b₁ (trail m size header) m (trail m₁ size header) m₁
 unfolding trail
 twice g₀ g m size b b₁ quiet l six few al {m₁} e =

@@ -73,6 +73,11 @@ pub written-behind : (t : Tag) (s : Said) (m : List ℕ) (k : ℕ) → t .at + t
 written-behind t silent m k h = refl
 written-behind t (says answer) m k h = answered-behind (t .at) (t .size) answer m k h
 
+pub writes-length : (ts : List Tag) (ss : List Said) (m : List ℕ) → length (writeAll ts ss m) ≡ length m
+writes-length [] ss m = refl
+writes-length (t ∷ ts) [] m = refl
+writes-length (t ∷ ts) (s ∷ ss) m = writes-length ts ss (written t s m) ∙ written-length t s m
+
 -- the writes leave what stands before the first tag
 pub writes-before : (m : List ℕ) (size p : ℕ) (ts : List Tag) (ss : List Said) (e : Ending) → Follows m size p ts e → take p (writeAll ts ss m) ≡ take p m
 writes-before m size p [] ss e h = refl

@@ -1,6 +1,6 @@
 use Rattle.words.proofs.Laws.Cases.{cases}
-use Rattle.responder.proofs.respond.code_of.Statement.{statement}
-use Rattle.responder.proofs.respond.code_of.Tie as tie
+use Rattle.responder.proofs.group.code_of.Statement.{statement}
+use Rattle.responder.proofs.group.code_of.Tie as tie
 
 returns : tie.Need-returns
 returns c = search cases

@@ -1,15 +1,13 @@
-// The writing pass: each tag is answered where it stands, in order. The record is the loop's own
-// variable, and only one item of it goes through a call.
+// The walk on the record: each tag outside the group is answered where it stands, in order, and
+// those of the group are noted. The record is the loop's own variable, and only one item of it goes
+// through a call.
 use crate::ask::Ask;
 use crate::ask::ask_at;
-use crate::group::group_of;
-use crate::respond::Served;
+use crate::progress::Carried;
+use crate::progress::Progress;
+use crate::progress::walked;
 use board::record::Board;
-use display::decision::answer_group;
-use display::decision::leave;
 use display::operation::note;
-use display::operation::start;
-use message::opening::Message;
 use message::outcome;
 use message::walk::Step;
 use message::walk::ended;
@@ -26,60 +24,30 @@ use tags::voltage::voltage_after;
 use tags::voltage::voltage_value;
 ghost use mathlib.Core.Bool.{true};
 ghost use mathlib.Core.Path.{_≡_};
-ghost use Rattle.message.specs.Sizes.{header};
-ghost use Rattle.message.specs.Walk.{Walking};
-ghost use Rattle.board.specs.Valid.{valid};
-ghost use Rattle.responder.specs.Serve.{Carried};
+ghost use Rattle.responder.specs.Progress.{Begun, Led};
 
-// Carries out the tags of a message of `size` bytes, on a valid record. The first walk answers the
-// tags outside the group and notes those of the group; where these are answered, a second one does
-// it, and passes the others over. No entry point: the message has been opened.
-pub fn serve(msg: &mut [u8], size: usize, board: Board) -> Served
-    requires { ⌜ (Walking (now msg) size header) × (valid board ≡ true) ⌝ }
-    ensures { λ r. ⌜ Carried (now (msg .entry)) size board (now (msg .exit)) r ⌝ }
+// Carries a message on from a tag outside the group to its end or its first fault. No entry point:
+// the message has been led up to there.
+pub fn carry_on(board: Board, msg: &mut [u8], progress: Progress) -> Carried
+    requires { ⌜ (Begun board (now msg) progress) × (progress .outside ≡ true) ⌝ }
+    ensures { λ r. ⌜ Led board (now (msg .entry)) (r .board) (now (msg .exit)) (r .progress) ⌝ }
 {
+    let size = progress.size;
     let mut b = board;
-    let display = b.display;
-    let mut group = leave(display);
-    let mut operation = start(display.settings);
-    let mut p = Message::HEADER;
+    let mut operation = progress.operation;
+    let mut p = progress.place;
     loop {
         let st = step_at(msg, size, p);
         let Step::Tag(tag, next) = st else {
             let ending = ended(st);
-            if group.answered {
-                let shown = group.display;
-                b.display = shown;
-                return Served {
-                    outcome: ending.outcome,
-                    place: ending.place,
-                    board: b,
-                };
-            }
-            let decided = group_of(display, ending.outcome, operation);
-            if decided.answered {
-                group = decided;
-                p = Message::HEADER;
-                continue;
-            }
-            let shown = decided.display;
-            b.display = shown;
-            return Served {
-                outcome: ending.outcome,
-                place: ending.place,
-                board: b,
-            };
+            let progress = walked(ending.outcome, ending.place, size, operation);
+            return Carried { progress, board: b };
         };
         let ask = ask_at(msg, tag);
         match ask {
             Ask::Short => {
-                let shown = group.display;
-                b.display = shown;
-                return Served {
-                    outcome: outcome::SHORT_REQUEST,
-                    place: p,
-                    board: b,
-                };
+                let progress = walked(outcome::SHORT_REQUEST, p, size, operation);
+                return Carried { progress, board: b };
             }
             Ask::Pass => {
                 p = next;
@@ -124,12 +92,6 @@ pub fn serve(msg: &mut [u8], size: usize, board: Board) -> Served
                 continue;
             }
             Ask::Frame(kind, a, x) => {
-                if group.answered {
-                    let answer = answer_group(group, kind);
-                    put_answer(msg, tag.at, tag.size, answer, b.facts, &b.line);
-                    p = next;
-                    continue;
-                }
                 operation = note(operation, kind, a, x);
                 p = next;
                 continue;
