@@ -13,6 +13,7 @@ use Rattle.message.specs.Walk.{wordPlace}
 use Rattle.message.specs.declared.walk.Tag.{Tag}
 use Rattle.tags.specs.Reply.{answered}
 use Rattle.responder.proofs.Laws.Endings.{ending-known}
+use Rattle.responder.proofs.Laws.Written.{writes-length}
 use Rattle.responder.specs.Answers.{Said, silent, says}
 use Rattle.responder.specs.Reply.{writeAll, codeOf, served, reply}
 use Rattle.demands.proofs.Laws.Replied.{Replied, untouched, walked, replied, clash}
@@ -36,16 +37,6 @@ writes-outside (t ∷ ts) [] m i u = refl
 writes-outside (t ∷ ts) (silent ∷ ss) m i u = writes-outside ts ss m i u
 writes-outside (t ∷ ts) (says answer ∷ ss) m i u =
     writes-outside ts ss (answered (t .at) (t .size) answer m) i (u .2) ∙ answered-outside (t .at) (t .size) answer m i (u .0) (u .1)
-
-pub writes-length : (ts : List Tag) (ss : List Said) (m : List ℕ) → length (writeAll ts ss m) ≡ length m
-unfolding answered
-writes-length [] ss m = refl
-writes-length (t ∷ ts) [] m = refl
-writes-length (t ∷ ts) (silent ∷ ss) m = writes-length ts ss m
-writes-length (t ∷ ts) (says answer ∷ ss) m =
-    writes-length ts ss (answered (t .at) (t .size) answer m)
-    ∙ length-put (t .at + tagHeader) (take (t .size) answer) (put (t .at + wordPlace) (le 4 (0x8000_0000 + length answer)) m)
-    ∙ length-put (t .at + wordPlace) (le 4 (0x8000_0000 + length answer)) m
 
 pub changes : Changes
 unfolding served

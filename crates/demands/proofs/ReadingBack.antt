@@ -22,11 +22,11 @@ use Rattle.board.specs.Valid.{valid}
 use Rattle.board.specs.declared.record.Board.{Board}
 use Rattle.responder.specs.Answers.{Said, silent, says, groupOf}
 use Rattle.responder.specs.Reply.{codeOf, reply}
-use Rattle.demands.proofs.Changes.{writes-length}
 use Rattle.responder.proofs.Laws.Follows.{follows, follows-walk}
 use Rattle.demands.proofs.Laws.ReadBack.{nth-at, judged-shows, judged-lacks, value-written}
 use Rattle.demands.proofs.Laws.Replied.{Replied, untouched, walked, replied, clash}
 use Rattle.responder.proofs.Laws.Saids.{Short, saids-short, few-characters}
+use Rattle.responder.proofs.Laws.Written.{writes-length}
 use Rattle.demands.proofs.Walked.{filled, code, whole, bytes-are, size-same, follows-whole}
 use Rattle.demands.specs.Changes.{trailOf, saidOf}
 use Rattle.demands.specs.ReadingBack.{tagOf, occurrence, saidAt, Reads, ReadingBack}
