@@ -69,7 +69,7 @@ pub record Came (b₀ : Board) (m₀ : List ℕ) (size : ℕ) : Type 0 where
   pub serves : reply b₀ m₀ ≡ served b₀ m₀ size
 
 -- its tags outside the group are carried out
-pub record Walked (b₀ : Board) (m₀ : List ℕ) (b : Board) (m : List ℕ) (p : Progress) : Type 0 where
+pub record AtEnd (b₀ : Board) (m₀ : List ℕ) (b : Board) (m : List ℕ) (p : Progress) : Type 0 where
   pub is : p .refused ≡ false
   pub inside : p .outside ≡ false
   pub through : Through (mixed (b₀ .display)) m₀ (p .size) b₀ m b (p .operation) (record { outcome = p .outcome; place = p .place })
@@ -81,13 +81,13 @@ pub record Stopped (b : Board) (m : List ℕ) (p : Progress) : Type 0 where
 
 -- a valid record and an opened message, led as far as they go without the record
 pub data Leading (b : Board) (m : List ℕ) (size : ℕ) (p : Progress) : Type 0 where
-  whole : p .size ≡ size → Walked b m b m p → Leading b m size p
+  whole : p .size ≡ size → AtEnd b m b m p → Leading b m size p
   partly : p .size ≡ size → Stopped b m p → Leading b m size p
 
 -- all that is left is the group and the code word
 pub data Led (b₀ : Board) (m₀ : List ℕ) (b : Board) (m : List ℕ) (p : Progress) : Type 0 where
   refused : Refused b₀ m₀ b m p → Led b₀ m₀ b m p
-  walked : Came b₀ m₀ (p .size) → Walked b₀ m₀ b m p → Led b₀ m₀ b m p
+  walked : Came b₀ m₀ (p .size) → AtEnd b₀ m₀ b m p → Led b₀ m₀ b m p
 
 -- what is found of any record and any bytes before anything is written
 pub data Begun (b : Board) (m : List ℕ) (p : Progress) : Type 0 where

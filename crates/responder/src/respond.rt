@@ -39,7 +39,8 @@ fn refused(outcome: u32, board: Board) -> Progress
     }
 }
 
-// Begins with a message: refuses it, or walks the tags that lead it. Nothing is written.
+// Begins with a message: refuses it, or walks the tags that lead it. Nothing is written. No entry
+// point: the first step of `respond`, and of the C library.
 pub fn begin(board: Board, msg: &mut [u8]) -> Progress
     ensures { λ r. ⌜ (Begun board (now (msg .exit)) r) × (now (msg .exit) ≡ now (msg .entry)) ⌝ }
 {

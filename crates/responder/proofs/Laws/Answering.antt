@@ -2,7 +2,7 @@
 use mathlib.Core.Bool.{Bool, true, false, cond}
 use mathlib.Core.List.{List, [], _∷_}
 use mathlib.Core.Path.{_≡_, refl, sym, ap, _∙_, subst}
-use Prim.Native.Nat.{ℕ, _+_, _-_, _≤_, _<_}
+use Prim.Native.Nat.{ℕ, _-_, _≤_, _<_}
 use native.Mathlib.Omega.{arith}
 use borrow.Author.Tests.{le-leb, lt-leb}
 use denote.Enum.Declared.{tagOf}
@@ -13,7 +13,7 @@ use Rattle.message.proofs.Laws.Steps.{found, step-same}
 use Rattle.message.proofs.walk.Step
 use Rattle.message.specs.Outcomes.{done, shortRequest}
 use Rattle.message.specs.Sizes.{header}
-use Rattle.message.specs.Walk.{step, endingOf}
+use Rattle.message.specs.Walk.{step}
 use Rattle.message.specs.declared.walk.Ending.{Ending}
 use Rattle.message.specs.declared.walk.Step.{Step}
 use Rattle.message.specs.declared.walk.Tag.{Tag}

@@ -27,7 +27,7 @@ use Rattle.responder.proofs.Laws.Saids.{few-characters, after-display}
 use Rattle.responder.proofs.Laws.Twice.{SameFixed, after-fixed, Twice, twice}
 use Rattle.responder.proofs.Laws.Written.{writes-length}
 use Rattle.responder.specs.Answers.{Said, operation, groupBy, groupOf, answers, after}
-use Rattle.responder.specs.Progress.{Through, Refused, Came, Walked, Led, refused, walked, Ready, Concluded, Answerable}
+use Rattle.responder.specs.Progress.{Through, Came, Led, refused, walked, Ready, Concluded, Answerable}
 use Rattle.responder.specs.Reply.{writeAll, codeOf, withDisplay, served, reply}
 use Rattle.responder.specs.Requests.{Trail, trail}
 use Rattle.responder.specs.Serve.{bytesOf, groupIn, asked, groupFor}

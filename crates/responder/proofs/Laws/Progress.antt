@@ -1,7 +1,7 @@
 -- How a message comes from one of the responder's functions to the next.
-use mathlib.Core.Bool.{Bool, true, false}
+use mathlib.Core.Bool.{true, false}
 use mathlib.Core.List.{List, [], _∷_}
-use mathlib.Core.Path.{_≡_, refl, sym, ap, _∙_, subst}
+use mathlib.Core.Path.{_≡_, refl, sym, _∙_, subst}
 use Prim.Native.Nat.{ℕ, _-_, _≤_, _<_}
 use native.Mathlib.Omega.{arith}
 use denote.Enum.Declared.{tagOf}
@@ -24,13 +24,12 @@ use Rattle.tags.specs.declared.table.FrameTag.{FrameTag}
 use Rattle.responder.proofs.Laws.Serving.{serve-start, serve-stop, serve-short, serve-pass, serve-left}
 use Rattle.responder.proofs.Laws.Trails.{in-message}
 use Rattle.responder.specs.Ask.{askOf, Named, InMessage}
-use Rattle.responder.specs.Progress.{Ahead, Through, Leads, Came, Walked, Stopped, Leading, whole, partly, Led, refused, walked, Begun, led, stopped, Ready, Concluded, Finished}
+use Rattle.responder.specs.Progress.{Ahead, Through, Leads, Came, Leading, whole, partly, Led, refused, walked, Begun, led, stopped, Ready, Concluded, Finished}
 use Rattle.responder.specs.Reply.{withDisplay}
 use Rattle.responder.specs.Requests.{Request, requestOf}
 use Rattle.responder.specs.declared.ask.Ask.{Ask}
 use Rattle.responder.specs.declared.lead.GroupAsk.{GroupAsk}
 use Rattle.responder.specs.declared.progress.Progress.{Progress}
-use Rattle.responder.specs.declared.respond.Served.{Served}
 
 -- ---- what a tag asks of the group
 module _ (r : Request) {g : GroupAsk} (h : Leads g (askOf r)) where

@@ -14,7 +14,7 @@ use mir.Syntax.{Ty, Lifetime, named, erased, mut, w8, w32, w64, tyInt, tyRef}
 use mir.Val.{Val, vint, vptr}
 use base.Logic.{SProp, ent, sep, emp, via, fst∗, id⊢}
 use base.Stored.{gnum}
-use base.Fml.{Fml, GName, Lft, Share, ftrue, flft, fobs, fauth, fbor, fobor, fat, froom, fdies}
+use base.Fml.{Fml, GName, Lft, Share, ftrue, flft, fobs, fauth, fbor, fobor, fat}
 use prog.Memory.{Memory}
 use prog.Routine.{Routine}
 use prog.Wp.{Heap, Env, Calls, Loops, WpFn, Tables}
@@ -34,7 +34,7 @@ use denote.Memory.{mem, cellAt, pointee}
 use denote.Plain.{uint-makes}
 use denote.Builtin.{u8, u32, u64}
 use denote.Ref.{RefT, MutRef, ptr-vals, mut-tells}
-use denote.Slice.{sliceTy, sliceVal, MutSlice, Room, finally, slice-vals, mut-slice-tells}
+use denote.Slice.{sliceVal, MutSlice, Room, finally, slice-vals, mut-slice-tells}
 use denote.Signature.{plain}
 use denote.Steps.{only, opens, closes, tied, ties, owned, peeks, heard, nothing}
 use denote.Struct.Steps.{spelt}
@@ -72,17 +72,12 @@ use Rattle.vcmailbox.proofs.emulator.carry_through as carry
 use Rattle.vcmailbox.proofs.emulator.carry_through.Symbol as carry-def
 use Rattle.vcmailbox.proofs.emulator.carry_through.Symbol.{name as #carry-through}
 use Rattle.vcmailbox.proofs.emulator.carry_through.Met as carry-thm
+use Rattle.vcmailbox.proofs.Cells.{R, Q, mach, message, empty, holds}
 use Rattle.vcmailbox.proofs.emulator.vc_serve.Key.{name as #vc-serve}
 use Rattle.vcmailbox.proofs.emulator.vc_serve as f
 use Rattle.vcmailbox.proofs.emulator.vc_serve.Statement as stated
 use Rattle.vcmailbox.proofs.emulator.vc_serve.Code as code
 use Rattle.vcmailbox.proofs.emulator.vc_serve.Code.Mir as parts
-
-abbrev R : RattleType
-R = T.the-row
-
-abbrev Q : RattleType
-Q = P.the-row
 
 abbrev S : RattleType
 S = D.the-row
@@ -97,18 +92,8 @@ board-ref ℓ = tyRef ℓ mut (pointee (R .written))
 abbrev byte-ref : Ty
 byte-ref = tyRef erased mut (tyInt w8)
 
-abbrev message : Lifetime → Ty
-message ℓ = sliceTy (tyRef ℓ mut (tyInt w8))
-
 abbrev place-ref : Ty
 place-ref = tyRef (named 2) mut (tyInt w64)
-
--- a local in a context: room for it, or what it holds, in front of the rest
-abbrev empty : {M : Type 1} (𝓤 : URA M) → Ty → ℕ → List (Item 𝓤) → List (Item 𝓤)
-empty 𝓤 τ l Γ = ‵ (froom τ l 0) ∷ ‵ (fdies τ l) ∷ Γ
-
-abbrev holds : {M : Type 1} (𝓤 : URA M) → Ty → ℕ → Val → List (Item 𝓤) → List (Item 𝓤)
-holds 𝓤 τ l v Γ = ‵ (fat fullShare τ l 0 v) ∷ ‵ (fdies τ l) ∷ Γ
 
 abbrev served : ℕ → ℕ → Board → Served
 served v m g = record { outcome = v; place = m; board = g }
@@ -123,10 +108,7 @@ Carry 𝓤 H A mem run = tripleOf 𝓤 H A carry.signature (carry.spec 𝓤 H A 
 abbrev Conclude : {M : Type 1} (𝓤 : URA M) (H : Heap 𝓤) (A : Atoms 𝓤) (mem : Memory → SProp 𝓤) (run : Routine → Fun 𝓤) → Contract 𝓤
 Conclude 𝓤 H A mem run = tripleOf 𝓤 H A conclude.signature (conclude.spec 𝓤 H A mem run)
 
--- the machine value of a record, and of a display
-abbrev mach : Board → Val
-mach g = LL.val T.the-type T′.the-laws g
-
+-- the machine value of a display
 abbrev mach-d : Display → Val
 mach-d d = LL.val D.the-type D′.the-laws d
 
