@@ -6,7 +6,9 @@ use crate::items::Clock;
 use crate::items::Device;
 use crate::items::State;
 use crate::items::Voltage;
+use crate::logic::at_most;
 use crate::logic::both;
+use crate::logic::either;
 use crate::record::Board;
 use crate::settings::is_supported;
 use crate::settings::need;
@@ -36,28 +38,15 @@ fn valid_clock(c: Clock) -> bool
     ensures { λ r. ⌜ r ≡ validClock c ⌝ }
 {
     let s = c.state;
-    if !valid_state(s) {
-        return false;
-    }
-    if s.exists {
-        return c.min <= c.rate && c.rate <= c.max;
-    }
-    true
+    let kept = both(at_most(c.min, c.rate), at_most(c.rate, c.max));
+    both(valid_state(s), either(!s.exists, kept))
 }
 
 fn valid_voltage(v: Voltage) -> bool
     ensures { λ r. ⌜ r ≡ validVoltage v ⌝ }
 {
-    if !v.valid {
-        return true;
-    }
-    if v.value < v.min {
-        return false;
-    }
-    if v.max < v.value {
-        return false;
-    }
-    v.max <= 10_000
+    let kept = both(at_most(v.min, v.value), at_most(v.value, v.max));
+    either(!v.valid, both(kept, at_most(v.max, 10_000)))
 }
 
 fn valid_devices(devices: [Device; 11]) -> bool
@@ -138,15 +127,20 @@ fn valid_display(d: Display) -> bool
 pub fn is_valid(b: Board) -> bool
     ensures { λ r. ⌜ r ≡ valid b ⌝ }
 {
+    if !valid_facts(b.facts) {
+        return false;
+    }
     let devices = b.devices;
+    if !valid_devices(devices) {
+        return false;
+    }
     let clocks = b.clocks;
+    if !valid_clocks(clocks) {
+        return false;
+    }
     let voltages = b.voltages;
-    let items = both(
-        both(valid_facts(b.facts), valid_devices(devices)),
-        valid_clocks(clocks),
-    );
-    both(
-        both(items, valid_voltages(voltages)),
-        valid_display(b.display),
-    )
+    if !valid_voltages(voltages) {
+        return false;
+    }
+    valid_display(b.display)
 }

@@ -13,7 +13,6 @@ use Rattle.board.specs.Items.{noDevice, noClock, noVoltage}
 use Rattle.board.specs.Valid.{validFacts, validState, validDevice, validClock, validVoltage, validBuffer, validDisplay, all, valid}
 use Rattle.board.specs.declared.display.Display.{Display}
 use Rattle.board.specs.declared.facts.Span.{Span}
-use Rattle.board.specs.declared.items.Clock.{Clock}
 use Rattle.board.specs.declared.record.Board.{Board}
 
 -- ---- each of a list
@@ -132,24 +131,29 @@ unfolding validVoltage
 no-voltage-valid = refl
 
 -- ---- what the tests give, one after the other
-module _ (c : Clock) {v : Bool} (ev : v ≡ validState (c .state)) where
-  pub clock-state : not v ≡ true → false ≡ validClock c
-  unfolding validClock
-  clock-state n = rw (← ev, not-true v n)
+module _ (b : Board) {f : Bool} (ef : f ≡ validFacts (b .facts)) where
+  pub facts-not : not f ≡ true → false ≡ valid b
+  unfolding valid
+  facts-not n = rw (← ef, not-true f n)
 
-  module _ (n : not v ≡ false) where
-    pub clock-absent : c .state .exists ≡ false → true ≡ validClock c
-    unfolding validClock
-    clock-absent e = rw (← ev, not-false v n, e)
+  module _ (nf : not f ≡ false) {d : Bool} (ed : d ≡ all validDevice (b .devices)) where
+    pub devices-not : not d ≡ true → false ≡ valid b
+    unfolding valid
+    devices-not n = rw (← ef, not-false f nf, ← ed, not-true d n)
 
-    module _ (e : c .state .exists ≡ true) where
-      pub clock-below : c .rate < c .min → leb (c .min) (c .rate) ≡ validClock c
-      unfolding validClock
-      clock-below h = rw (← ev, not-false v n, e, lt-leb _ _ h)
+    module _ (nd : not d ≡ false) {c : Bool} (ec : c ≡ all validClock (b .clocks)) where
+      pub clocks-not : not c ≡ true → false ≡ valid b
+      unfolding valid
+      clocks-not n = rw (← ef, not-false f nf, ← ed, not-false d nd, ← ec, not-true c n)
 
-      pub clock-above : c .min ≤ c .rate → leb (c .rate) (c .max) ≡ validClock c
-      unfolding validClock
-      clock-above h = rw (← ev, not-false v n, e, le-leb _ _ h)
+      module _ (nc : not c ≡ false) {v : Bool} (ev : v ≡ all validVoltage (b .voltages)) where
+        pub voltages-not : not v ≡ true → false ≡ valid b
+        unfolding valid
+        voltages-not n = rw (← ef, not-false f nf, ← ed, not-false d nd, ← ec, not-false c nc, ← ev, not-true v n)
+
+        pub display-is : not v ≡ false → {r : Bool} → r ≡ validDisplay (b .display) → r ≡ valid b
+        unfolding valid
+        display-is nv er = rw (← ef, not-false f nf, ← ed, not-false d nd, ← ec, not-false c nc, ← ev, not-false v nv) er
 
 module _ (region : Span) (needed : ℕ) (buffer : Span) (n : buffer .size ≡ 0 → ⊥) (h : region .base ≤ buffer .base) {r b : ℕ} (er : r ≡ region .base + region .size) (eb : b ≡ buffer .base + buffer .size) where
   pub buffer-behind : r < b → false ≡ validBuffer region needed buffer
