@@ -1,37 +1,41 @@
 //! Times the proved library beside the independent implementation in Rust and a copy of the message, in
 //! one run: serving, building, reading.
 //!
-//! The three take turns, so that what else the machine does falls on all of them alike; each one's best
-//! turn counts.
+//! The three take turns, so that what else the machine does falls on all of them alike. Each one's best
+//! turn is shown, and the average of all its turns.
 
+mod clock;
 mod messages;
 
+use clock::{timed, Spent};
 use interface::Board;
 use messages::Request;
 use std::hint::black_box;
-use std::time::Instant;
 
 const TURNS: usize = 2_000;
 
-/// The best time of each of three, in nanoseconds for one run, over many turns.
-fn best(runs: usize, mut turns: [&mut dyn FnMut() -> f64; 3]) -> [f64; 3] {
-    let mut best = [f64::MAX; 3];
-    for _ in 0..TURNS {
-        for (turn, best) in turns.iter_mut().zip(&mut best) {
-            *best = best.min(turn() / runs as f64);
-        }
-    }
-    best
+/// Nanoseconds for one run: the best turn by the wall's clock, the average of all by processor time.
+#[derive(Clone, Copy)]
+struct Times {
+    best: f64,
+    average: f64,
 }
 
-fn timed(work: impl FnOnce()) -> f64 {
-    let start = Instant::now();
-    work();
-    start.elapsed().as_nanos() as f64
+/// The times of each of three, over many turns.
+fn times(runs: usize, mut turns: [&mut dyn FnMut() -> Spent; 3]) -> [Times; 3] {
+    let mut times = [Times { best: f64::MAX, average: 0.0 }; 3];
+    for _ in 0..TURNS {
+        for (turn, times) in turns.iter_mut().zip(&mut times) {
+            let spent = turn();
+            times.best = times.best.min(spent.wall / runs as f64);
+            times.average += spent.processor / (runs * TURNS) as f64;
+        }
+    }
+    times
 }
 
 /// Serves every copy of the message in the buffer, each on the record that the one before it left.
-fn turn(request: &[u8], buffer: &mut [u8], serve: impl Fn(&mut Board, &mut [u8]) -> u32) -> f64 {
+fn turn(request: &[u8], buffer: &mut [u8], serve: impl Fn(&mut Board, &mut [u8]) -> u32) -> Spent {
     for copy in buffer.chunks_exact_mut(request.len()) {
         copy.copy_from_slice(request);
     }
@@ -44,12 +48,18 @@ fn turn(request: &[u8], buffer: &mut [u8], serve: impl Fn(&mut Board, &mut [u8])
     })
 }
 
-fn line(name: &str, tags: usize, [proved, rust, copy]: [f64; 3]) {
+fn line(name: &str, tags: usize, [proved, rust, copy]: [Times; 3]) {
+    let a_tag = |time: f64| time / tags as f64;
     println!(
-        "{name:<22} {tags:>5} {proved:>10.0} {rust:>10.0} {copy:>8.0} {:>8.2} {:>8.2} {:>7.2}",
-        proved / tags as f64,
-        rust / tags as f64,
-        proved / rust,
+        "{name:<19} {tags:>5} {:>7.0} {:>7.0} {:>6.0} {:>6.2} {:>6.2} {:>6.2} {:>7.2} {:>6.2}",
+        proved.best,
+        rust.best,
+        copy.best,
+        a_tag(proved.best),
+        a_tag(rust.best),
+        proved.best / rust.best,
+        a_tag(proved.average),
+        a_tag(rust.average),
     );
 }
 
@@ -58,7 +68,7 @@ fn serving(request: &Request) {
     let runs = (65_536 / message.len()).max(1);
     let mut buffers = [(); 3].map(|()| vec![0; runs * message.len()]);
     let [one, two, three] = &mut buffers;
-    let times = best(
+    let times = times(
         runs,
         [
             &mut || turn(message, one, |board, copy| vcmailbox::serve(board, copy).0),
@@ -93,7 +103,7 @@ fn building() {
     let mut buffers = [(); 3].map(|()| vec![0; 65_536]);
     let request = buffers[0].clone();
     let [one, two, three] = &mut buffers;
-    let times = best(
+    let times = times(
         1,
         [
             &mut || timed(|| assert_eq!(build!(vcmailbox, one), 65_536)),
@@ -110,7 +120,7 @@ fn reading(request: &Request) {
     vcmailbox::serve(&mut vcmailbox::bench(), &mut reply);
     let mut copy = reply.clone();
     let last = request.tags - 1;
-    let times = best(
+    let times = times(
         1,
         [
             &mut || timed(|| assert_eq!(vcmailbox::read(&reply, 0x0003_8002, last, 8).outcome, 0)),
@@ -122,9 +132,10 @@ fn reading(request: &Request) {
 }
 
 fn main() {
+    println!("{:<19} {:>5} {:^22} {:^20} {:^14}", "ns", "", "best turn", "a tag", "all turns");
     println!(
-        "{:<22} {:>5} {:>10} {:>10} {:>8} {:>8} {:>8} {:>7}",
-        "ns, best turn", "tags", "proved", "Rust", "copy", "a tag", "Rust's", "ratio"
+        "{:<19} {:>5} {:>7} {:>7} {:>6} {:>6} {:>6} {:>6} {:>7} {:>6}",
+        "", "tags", "proved", "Rust", "copy", "proved", "Rust", "ratio", "proved", "Rust"
     );
     let requests = messages::all();
     requests.iter().for_each(serving);
