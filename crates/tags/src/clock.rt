@@ -6,23 +6,27 @@ use crate::table::ClockTag;
 use board::items::Clock;
 use board::items::State;
 ghost use mathlib.Core.Path.{_≡_};
+ghost use Prim.Native.Nat.{min, max};
 ghost use Rattle.board.specs.Items.{noClock};
 ghost use Rattle.tags.specs.Clock.{clamp, settled, clockAfter, clockValue};
+
+fn lesser(a: u32, b: u32) -> u32
+    ensures { λ r. ⌜ r ≡ min a b ⌝ }
+{
+    if a <= b { a } else { b }
+}
+
+fn greater(a: u32, b: u32) -> u32
+    ensures { λ r. ⌜ r ≡ max a b ⌝ }
+{
+    if a <= b { b } else { a }
+}
 
 // x, or the nearer bound where it lies outside.
 pub fn clamped(low: u32, high: u32, x: u32) -> u32
     ensures { λ r. ⌜ r ≡ clamp low high x ⌝ }
 {
-    if high < low {
-        return high;
-    }
-    if x < low {
-        return low;
-    }
-    if high < x {
-        return high;
-    }
-    x
+    lesser(high, greater(low, x))
 }
 
 // The clock of an id that is not listed.
