@@ -15,7 +15,6 @@ use Rattle.message.specs.Walk.{step, endingOf, Walking}
 use Rattle.message.specs.declared.walk.Ending.{Ending}
 use Rattle.message.specs.declared.walk.Step.{Step}
 use Rattle.message.specs.declared.walk.Tag.{Tag}
-use Rattle.board.specs.declared.display.Display.{Display}
 use Rattle.board.specs.declared.record.Board.{Board}
 use Rattle.display.specs.Decision.{mixed}
 use Rattle.display.specs.Operation.{unasked, noted}
@@ -24,8 +23,7 @@ use Rattle.tags.specs.declared.table.FrameTag.{FrameTag}
 use Rattle.responder.proofs.Laws.Serving.{serve-start, serve-stop, serve-short, serve-pass, serve-left}
 use Rattle.responder.proofs.Laws.Trails.{in-message}
 use Rattle.responder.specs.Ask.{askOf, Named, InMessage}
-use Rattle.responder.specs.Progress.{Ahead, Through, Leads, Came, Leading, whole, partly, Led, refused, walked, Begun, led, stopped, Ready, Concluded, Finished}
-use Rattle.responder.specs.Reply.{withDisplay}
+use Rattle.responder.specs.Progress.{Ahead, Through, Leads, Came, Leading, whole, partly, Led, refused, walked, Begun, led, stopped, Ready}
 use Rattle.responder.specs.Requests.{Request, requestOf}
 use Rattle.responder.specs.declared.ask.Ask.{Ask}
 use Rattle.responder.specs.declared.lead.GroupAsk.{GroupAsk}
@@ -119,9 +117,6 @@ pub carry-through : (b₀ : Board) (m₀ : List ℕ) (size : ℕ) {m : List ℕ}
     → {p : Progress} → p ≡ record { refused = false; outside = false; outcome = e .outcome; place = e .place; size = size; operation = o } → Led b₀ m₀ b m p
 carry-through b₀ m₀ size c w ep = rw ep (walked c (record { is = refl; inside = refl; through = w }))
 
--- ---- a message that is finished
-pub finish-is : (b : Board) (m m′ : List ℕ) (p : Progress) {d : Display} → Concluded b m m′ p d → Finished b m m′ p (record { outcome = p .outcome; place = p .place; board = withDisplay b d })
-finish-is b m m′ p h = record { serves = h .serves }
-
+-- a message that was walked may be concluded
 pub ready : {b₀ : Board} {m₀ : List ℕ} {b : Board} {m : List ℕ} {p : Progress} → Led b₀ m₀ b m p → Ready b m p
 ready {b₀} {m₀} h = record { b₀ = b₀; m₀ = m₀; led = h }
