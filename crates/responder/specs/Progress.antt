@@ -46,6 +46,12 @@ pub record Through (g : Decision) (m₀ : List ℕ) (size : ℕ) (b₀ : Board) 
   pub ending : e ≡ trail m₀ size header .ending
   pub noted : g .answered ≡ false → o ≡ operation (unasked (b₀ .display .settings)) (trail m₀ size header .requests)
 
+-- from p the walk comes to q, and nothing between them matters: what is ahead at p is ahead at q
+pub record Passes (m : List ℕ) (size p q : ℕ) : Type 0 where
+  pub walking : Walking m size q
+  pub later : p ≤ q
+  pub ahead : (b : Board) (o : Operation) → Ahead (mixed (b .display)) m size b m b o p → Ahead (mixed (b .display)) m size b m b o q
+
 -- ---- the tags that lead a message
 -- what a tag asks of the group is what it asks; a tag that may stand outside the group may ask anything
 abbrev pub Leads : GroupAsk → Ask → Type 0
@@ -104,6 +110,7 @@ pub record Ready (b : Board) (m : List ℕ) (p : Progress) : Type 0 where
 pub record Concluded (b : Board) (m m′ : List ℕ) (p : Progress) (d : Display) : Type 0 where
   pub serves : (b₀ : Board) (m₀ : List ℕ) → Led b₀ m₀ b m p → leaves m′ (record { outcome = p .outcome; place = p .place; board = withDisplay b d }) ≡ reply b₀ m₀
 
+-- with the bytes m′ and the result r, whatever was walked is served
 pub record Finished (b : Board) (m m′ : List ℕ) (p : Progress) (r : Served) : Type 0 where
   pub serves : (b₀ : Board) (m₀ : List ℕ) → Led b₀ m₀ b m p → leaves m′ r ≡ reply b₀ m₀
 

@@ -1,6 +1,7 @@
 // The walk over the tags that lead a message: those of the frame buffer group, and those passed
 // over. It needs nothing of the record but the settings.
 use crate::ask::word_of;
+use crate::pass::pass_empty;
 use crate::progress::Progress;
 use crate::progress::walked;
 use board::record::Board;
@@ -16,6 +17,7 @@ use tags::table::FrameTag;
 use tags::table::Kind;
 use tags::table::Row;
 use tags::table::frame_row;
+use tags::table::is_beyond;
 ghost use mathlib.Core.Bool.{true};
 ghost use mathlib.Core.Path.{_≡_};
 ghost use lib.ListN.{length};
@@ -46,6 +48,9 @@ pub fn group_ask(msg: &[u8], tag: Tag) -> GroupAsk
         return GroupAsk::Outside;
     }
     if tag.id >= 0x0005_0000 {
+        if is_beyond(tag.id) {
+            return GroupAsk::Pass;
+        }
         return GroupAsk::Outside;
     }
     let row = frame_row(tag.id);
@@ -95,7 +100,7 @@ pub fn lead(msg: &[u8], size: usize, board: Board) -> Progress
                 };
             }
             GroupAsk::Pass => {
-                p = next;
+                p = pass_empty(msg, size, next);
                 continue;
             }
             GroupAsk::Frame(kind, a, x) => {

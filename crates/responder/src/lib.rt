@@ -3,5 +3,6 @@ pub mod ask;
 pub mod carry;
 pub mod group;
 pub mod lead;
+pub mod pass;
 pub mod progress;
 pub mod respond;

@@ -94,3 +94,7 @@ find id (e ∷ es) = cond (eqb id (e .id)) (Row.Known (e .kind) (e .request)) (f
 -- the row of an id: that of its entry, or unknown
 unfoldable pub rowOf : ℕ → Row
 rowOf id = find id table
+
+-- every id of the table is below this: one from here on is unknown
+abbrev pub tableEnd : ℕ
+tableEnd = 0x0007_0000

@@ -1,7 +1,8 @@
 // The table of known tags.
 ghost use mathlib.Core.Path.{_≡_};
 ghost use Prim.Native.Nat.{_<_, _≤_};
-ghost use Rattle.tags.specs.Table.{rowOf};
+ghost use lib.Dec.{leb};
+ghost use Rattle.tags.specs.Table.{rowOf, tableEnd};
 
 pub enum FactTag {
     Firmware,
@@ -165,4 +166,11 @@ pub fn frame_row(id: u32) -> Row
         0x0004_8001 => Row::Known(Kind::Frame(FrameTag::Release), 0),
         _ => Row::Unknown,
     }
+}
+
+// Whether an id stands behind all those of the table.
+pub fn is_beyond(id: u32) -> bool
+    ensures { λ r. ⌜ r ≡ leb tableEnd id ⌝ }
+{
+    id >= 0x0007_0000
 }

@@ -1,5 +1,5 @@
 -- What a tag asks, case by case.
-use mathlib.Core.Bool.{false}
+use mathlib.Core.Bool.{Bool, true, false}
 use mathlib.Core.List.{List}
 use mathlib.Core.Path.{_≡_, refl, sym, ap, _∙_}
 use Prim.Native.Nat.{ℕ, _+_, _-_, _%_, _≤_, _<_}
@@ -11,16 +11,17 @@ use Rattle.words.proofs.Laws.Agree.{number-part}
 use Rattle.words.specs.Numbers.{numberAt, word}
 use Rattle.message.specs.Sizes.{tagHeader}
 use Rattle.message.specs.declared.walk.Tag.{Tag}
+use Rattle.tags.proofs.Laws.Find.{beyond-unknown}
 use Rattle.tags.proofs.Laws.Rows.{row-words}
 use Rattle.tags.specs.Place.{placeOf, Placed}
-use Rattle.tags.specs.Table.{rowOf}
+use Rattle.tags.specs.Table.{rowOf, tableEnd}
 use Rattle.tags.specs.declared.place.Place.{Place}
 use Rattle.tags.specs.declared.table.FrameTag.{FrameTag}
 use Rattle.tags.specs.declared.table.Kind.{Kind}
 use Rattle.tags.specs.declared.table.Row.{Row}
 use Rattle.responder.specs.Ask.{kindAsk, askOf, Within, Named, InMessage, RequestFits}
 use Rattle.responder.specs.Progress.{Leads}
-use Rattle.responder.specs.Requests.{requestBy, requestOf, valueOf}
+use Rattle.responder.specs.Requests.{isResponse, requestBy, requestOf, valueOf}
 use Rattle.responder.specs.declared.ask.Ask.{Ask}
 use Rattle.responder.specs.declared.lead.GroupAsk.{GroupAsk}
 
@@ -51,6 +52,18 @@ module _ (m : List ℕ) (t : Tag) where
 
   pub group-response : 0x8000_0000 ≤ t .word → Leads GroupAsk.Pass (askOf (requestOf m t))
   group-response h = sym (ask-response h .is)
+
+  -- an id behind the table, whatever the tag word is
+  pub ask-beyond : tableEnd ≤ t .id → Named (askOf (requestOf m t)) Ask.Pass
+  unfolding requestOf requestBy askOf
+  ask-beyond h = record { is = rw (beyond-unknown (t .id) h) (go (isResponse (t .word))); within = tt }
+    where
+      go : (b : Bool) → Ask.Pass ≡ askOf (requestBy b Row.Unknown (t .size) (valueOf m t))
+      go true = refl
+      go false = refl
+
+  pub group-beyond : tableEnd ≤ t .id → Leads GroupAsk.Pass (askOf (requestOf m t))
+  group-beyond h = sym (ask-beyond h .is)
 
   module _ (h : t .word < 0x8000_0000) {row : Row} (er : row ≡ rowOf (t .id)) where
     request-is : requestOf m t ≡ requestBy false row (t .size) (valueOf m t)

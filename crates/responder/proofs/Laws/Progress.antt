@@ -1,17 +1,18 @@
 -- How a message comes from one of the responder's functions to the next.
 use mathlib.Core.Bool.{true, false}
 use mathlib.Core.List.{List, [], _∷_}
-use mathlib.Core.Path.{_≡_, refl, sym, _∙_, subst}
-use Prim.Native.Nat.{ℕ, _-_, _≤_, _<_}
+use mathlib.Core.Path.{_≡_, refl, sym, ap, _∙_, subst}
+use Prim.Native.Nat.{ℕ, _+_, _-_, _≤_, _<_}
 use native.Mathlib.Omega.{arith}
 use denote.Enum.Declared.{tagOf}
 use types.Run.{OneOf}
 use lib.ListN.{length}
-use Rattle.message.proofs.Laws.Steps.{Found, found, walking-on}
+use Rattle.words.specs.Numbers.{word}
+use Rattle.message.proofs.Laws.Steps.{Found, found, walking-on, step-tag}
 use Rattle.message.proofs.walk.Step
 use Rattle.message.specs.Outcomes.{done, shortRequest}
-use Rattle.message.specs.Sizes.{header}
-use Rattle.message.specs.Walk.{step, endingOf, Walking}
+use Rattle.message.specs.Sizes.{header, tagHeader}
+use Rattle.message.specs.Walk.{sizePlace, wordPlace, step, endingOf, Walking}
 use Rattle.message.specs.declared.walk.Ending.{Ending}
 use Rattle.message.specs.declared.walk.Step.{Step}
 use Rattle.message.specs.declared.walk.Tag.{Tag}
@@ -19,11 +20,13 @@ use Rattle.board.specs.declared.record.Board.{Board}
 use Rattle.display.specs.Decision.{mixed}
 use Rattle.display.specs.Operation.{unasked, noted}
 use Rattle.display.specs.declared.operation.Operation.{Operation}
+use Rattle.tags.specs.Table.{tableEnd}
 use Rattle.tags.specs.declared.table.FrameTag.{FrameTag}
+use Rattle.responder.proofs.Laws.Asks.{ask-beyond}
 use Rattle.responder.proofs.Laws.Serving.{serve-start, serve-stop, serve-short, serve-pass, serve-left}
 use Rattle.responder.proofs.Laws.Trails.{in-message}
 use Rattle.responder.specs.Ask.{askOf, Named, InMessage}
-use Rattle.responder.specs.Progress.{Ahead, Through, Leads, Came, Leading, whole, partly, Led, refused, walked, Begun, led, stopped, Ready}
+use Rattle.responder.specs.Progress.{Ahead, Through, Passes, Leads, Came, Leading, whole, partly, Led, refused, walked, Begun, led, stopped, Ready}
 use Rattle.responder.specs.Requests.{Request, requestOf}
 use Rattle.responder.specs.declared.ask.Ask.{Ask}
 use Rattle.responder.specs.declared.lead.GroupAsk.{GroupAsk}
@@ -83,6 +86,27 @@ module _ (m : List ℕ) (size : ℕ) (o₀ o : Operation) (p : ℕ) (h : LeadsOn
       pub leads-cut : g ≡ GroupAsk.Short → (b : Board) → o₀ ≡ unasked (b .display .settings) → length (b .line) ≤ 256
           → Through (mixed (b .display)) m size b m b o (record { outcome = shortRequest; place = p })
       leads-cut e b eb l = serve-short (mixed (b .display)) m size b m b o p (h .ahead b eb l) es et (leads-short (requestOf m t) eg e) refl
+
+-- over a run of tags that are passed over
+pub leads-over : (m : List ℕ) (size : ℕ) (o₀ o : Operation) (p q : ℕ) → LeadsOn m size o₀ o p → Passes m size p q → LeadsOn m size o₀ o q
+leads-over m size o₀ o p q h s = record { walking = s .walking; ahead = λ b e l. s .ahead b o (h .ahead b e l) }
+
+module _ (m : List ℕ) (size p : ℕ) where
+  pub passes-none : Walking m size p → Passes m size p p
+  passes-none w = record { walking = w; later = omega arith; ahead = λ b o h. h }
+
+  pub passes-one : {q id v : ℕ} → Passes m size p q → q + tagHeader ≤ size → id ≡ word m q → tableEnd ≤ id → v ≡ word m (q + sizePlace) → v ≡ 0 → Passes m size p (q + tagHeader)
+  passes-one {q} {id} {v} s h e b ev z =
+      let t : Tag = record { at = q; id = id; size = v; word = word m (q + wordPlace) } in
+      let none : q + tagHeader + 0 ≡ q + tagHeader = omega arith in
+      let st : step m size q ≡ Step.Tag t (q + tagHeader) =
+      sym (step-tag m size q (λ n. omega arith) e (λ n. omega arith) {padded = 0} ev (rw z) (omega arith) refl) ∙ ap (Step.Tag t) none in
+      let f = found m size q st in
+      record {
+        walking = walking-on m m size q (s .walking) f refl;
+        later = let l = s .later in omega arith;
+        ahead = λ c o a. serve-pass (mixed (c .display)) m size c m c o q (s .ahead c o a) refl st (ask-beyond m t b) refl;
+      }
 
 module _ (b : Board) (m : List ℕ) (size : ℕ) {o : Operation} where
   pub lead-through : {e : Ending} → Through (mixed (b .display)) m size b m b o e → {p : Progress} → p ≡ record { refused = false; outside = false; outcome = e .outcome; place = e .place; size = size; operation = o } → Leading b m size p

@@ -2,12 +2,12 @@
 use mathlib.Core.Bool.{Bool, true, false, _||_, and-eq-true-iff}
 use mathlib.Core.List.{List, [], _∷_, _++_}
 use mathlib.Core.Path.{_≡_, refl}
-use Prim.Native.Nat.{ℕ, _≤_, _<_}
+use Prim.Native.Nat.{ℕ, _+_, _≤_, _<_}
 use native.Mathlib.Omega.{arith}
 use borrow.Author.Tests.{ne-eqb, ltb-true, leb-true}
 use lib.Dec.{ltb, leb}
 use Rattle.board.specs.Valid.{all}
-use Rattle.tags.specs.Table.{Entry, find}
+use Rattle.tags.specs.Table.{Entry, find, table, outsideTags, groupTags, rowOf, tableEnd}
 use Rattle.tags.specs.declared.table.Row.{Row}
 
 abbrev pub Absent : Type 0 → List Entry → ℕ → Type 0
@@ -36,3 +36,8 @@ find-apart low high id [] fs l h a = refl
 find-apart low high id (e ∷ es) fs l h a =
     let p = and-eq-true-iff (beyond low high e) (all (beyond low high) es) .0 a in
     rw (ne-eqb id (e .id) (apart low high id (e .id) l h (p .0))) (find-apart low high id es fs l h (p .1))
+
+-- an id behind all those of the table is unknown
+pub beyond-unknown : (id : ℕ) → tableEnd ≤ id → rowOf id ≡ Row.Unknown
+unfolding rowOf table outsideTags groupTags
+beyond-unknown id h = find-apart tableEnd (id + 1) id table [] h (omega arith) refl

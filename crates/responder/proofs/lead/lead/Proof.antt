@@ -3,7 +3,7 @@ use Prim.Native.Nat.{_-_}
 use native.Mathlib.Omega.{arith}
 use borrow.Author.Needs.{needs}
 use lib.ListN.{length}
-use Rattle.responder.proofs.Laws.Progress.{LeadsOn, leads-start, leads-stop, leads-less, leads-in, leads-past, leads-note, leads-cut, lead-through, lead-stopped}
+use Rattle.responder.proofs.Laws.Progress.{LeadsOn, leads-start, leads-stop, leads-less, leads-in, leads-past, leads-over, leads-note, leads-cut, lead-through, lead-stopped}
 use Rattle.responder.proofs.lead.lead.Statement.{statement}
 use Rattle.responder.proofs.lead.lead.Tie as tie
 
@@ -67,11 +67,22 @@ returns-3 c =
 enum-told-3 : tie.Need-enum-told-3 Inv-loop μ-loop
 enum-told-3 c = search needs
 
+pass-empty-requires : tie.Need-pass-empty-requires Inv-loop μ-loop
+pass-empty-requires c κs =
+    let at-step = c .before .before .before .before .before .before in
+    leads-past _ _ _ _ _ (at-step .before .loop .inv) (at-step .step-at .ensures) (c .before .before .before .before .st .given .1) (c .before .before .group-ask .ensures) (c .enum-told3 .given .1) .walking
+
 loop-less : tie.Need-loop-less Inv-loop μ-loop
-loop-less c = search leads-less
+loop-less c =
+    let at-step = c .before .before .before .before .before .before .before in
+    let l = leads-less _ _ _ _ _ (at-step .before .loop .inv) (at-step .step-at .ensures) (c .before .before .before .before .before .st .given .1) in
+    let s = c .pass-empty .ensures .later in
+    omega arith
 
 loop-again : tie.Need-loop-again Inv-loop μ-loop
-loop-again c = leads-past _ _ _ _ _ (c .before .before .before .before .before .before .before .loop .inv) (c .before .before .before .before .before .before .step-at .ensures) (c .before .before .before .before .st .given .1) (c .before .before .group-ask .ensures) (c .enum-told3 .given .1)
+loop-again c =
+    let at-step = c .before .before .before .before .before .before .before in
+    leads-over _ _ _ _ _ _ (leads-past _ _ _ _ _ (at-step .before .loop .inv) (at-step .step-at .ensures) (c .before .before .before .before .before .st .given .1) (c .before .before .before .group-ask .ensures) (c .before .enum-told3 .given .1)) (c .pass-empty .ensures)
 
 enum-known-ask : tie.Need-enum-known-ask Inv-loop μ-loop
 enum-known-ask c = search needs
@@ -105,6 +116,7 @@ lead-spec =
     enum-told-2
     returns-3
     enum-told-3
+    pass-empty-requires
     loop-less
     loop-again
     enum-known-ask
