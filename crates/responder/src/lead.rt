@@ -1,7 +1,7 @@
 // The walk over the tags that lead a message: those of the frame buffer group, and those passed
 // over. It needs nothing of the record but the settings.
 use crate::ask::word_of;
-use crate::pass::pass_empty;
+use crate::pass::pass_run;
 use crate::progress::Progress;
 use crate::progress::walked;
 use board::record::Board;
@@ -100,7 +100,7 @@ pub fn lead(msg: &[u8], size: usize, board: Board) -> Progress
                 };
             }
             GroupAsk::Pass => {
-                p = pass_empty(msg, size, next);
+                p = pass_run(msg, size, next, tag.size);
                 continue;
             }
             GroupAsk::Frame(kind, a, x) => {

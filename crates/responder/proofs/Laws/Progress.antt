@@ -8,11 +8,12 @@ use denote.Enum.Declared.{tagOf}
 use types.Run.{OneOf}
 use lib.ListN.{length}
 use Rattle.words.specs.Numbers.{word}
+use Rattle.words.specs.Round.{roundUp}
 use Rattle.message.proofs.Laws.Steps.{Found, found, walking-on, step-tag}
 use Rattle.message.proofs.walk.Step
 use Rattle.message.specs.Outcomes.{done, shortRequest}
 use Rattle.message.specs.Sizes.{header, tagHeader}
-use Rattle.message.specs.Walk.{sizePlace, wordPlace, step, endingOf, Walking}
+use Rattle.message.specs.Walk.{sizePlace, wordPlace, tagEnd, step, endingOf, Walking}
 use Rattle.message.specs.declared.walk.Ending.{Ending}
 use Rattle.message.specs.declared.walk.Step.{Step}
 use Rattle.message.specs.declared.walk.Tag.{Tag}
@@ -95,15 +96,14 @@ module _ (m : List ℕ) (size p : ℕ) where
   pub passes-none : Walking m size p → Passes m size p p
   passes-none w = record { walking = w; later = omega arith; ahead = λ b o h. h }
 
-  pub passes-one : {q id v : ℕ} → Passes m size p q → q + tagHeader ≤ size → id ≡ word m q → tableEnd ≤ id → v ≡ word m (q + sizePlace) → v ≡ 0 → Passes m size p (q + tagHeader)
-  passes-one {q} {id} {v} s h e b ev z =
+  pub passes-one : {q v stride id there : ℕ} → Passes m size p q → stride ≡ tagEnd 0 v → q + stride ≤ size → id ≡ word m q → tableEnd ≤ id → there ≡ word m (q + sizePlace) → there ≡ v
+      → Passes m size p (q + stride)
+  passes-one {q} {v} {stride} {id} s es h e b ev z =
       let t : Tag = record { at = q; id = id; size = v; word = word m (q + wordPlace) } in
-      let none : q + tagHeader + 0 ≡ q + tagHeader = omega arith in
-      let st : step m size q ≡ Step.Tag t (q + tagHeader) =
-      sym (step-tag m size q (λ n. omega arith) e (λ n. omega arith) {padded = 0} ev (rw z) (omega arith) refl) ∙ ap (Step.Tag t) none in
-      let f = found m size q st in
+      let behind : q + tagHeader + roundUp 4 v ≡ q + stride = omega arith in
+      let st : step m size q ≡ Step.Tag t (q + stride) = sym (step-tag m size q (λ n. omega arith) e (λ n. omega arith) (sym z ∙ ev) refl (omega arith) refl) ∙ ap (Step.Tag t) behind in
       record {
-        walking = walking-on m m size q (s .walking) f refl;
+        walking = walking-on m m size q (s .walking) (found m size q st) refl;
         later = let l = s .later in omega arith;
         ahead = λ c o a. serve-pass (mixed (c .display)) m size c m c o q (s .ahead c o a) refl st (ask-beyond m t b) refl;
       }

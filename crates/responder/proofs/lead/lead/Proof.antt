@@ -67,8 +67,8 @@ returns-3 c =
 enum-told-3 : tie.Need-enum-told-3 Inv-loop μ-loop
 enum-told-3 c = search needs
 
-pass-empty-requires : tie.Need-pass-empty-requires Inv-loop μ-loop
-pass-empty-requires c κs =
+pass-run-requires : tie.Need-pass-run-requires Inv-loop μ-loop
+pass-run-requires c κs =
     let at-step = c .before .before .before .before .before .before in
     leads-past _ _ _ _ _ (at-step .before .loop .inv) (at-step .step-at .ensures) (c .before .before .before .before .st .given .1) (c .before .before .group-ask .ensures) (c .enum-told3 .given .1) .walking
 
@@ -76,13 +76,13 @@ loop-less : tie.Need-loop-less Inv-loop μ-loop
 loop-less c =
     let at-step = c .before .before .before .before .before .before .before in
     let l = leads-less _ _ _ _ _ (at-step .before .loop .inv) (at-step .step-at .ensures) (c .before .before .before .before .before .st .given .1) in
-    let s = c .pass-empty .ensures .later in
+    let s = c .pass-run .ensures .later in
     omega arith
 
 loop-again : tie.Need-loop-again Inv-loop μ-loop
 loop-again c =
     let at-step = c .before .before .before .before .before .before .before in
-    leads-over _ _ _ _ _ _ (leads-past _ _ _ _ _ (at-step .before .loop .inv) (at-step .step-at .ensures) (c .before .before .before .before .before .st .given .1) (c .before .before .before .group-ask .ensures) (c .before .enum-told3 .given .1)) (c .pass-empty .ensures)
+    leads-over _ _ _ _ _ _ (leads-past _ _ _ _ _ (at-step .before .loop .inv) (at-step .step-at .ensures) (c .before .before .before .before .before .st .given .1) (c .before .before .before .group-ask .ensures) (c .before .enum-told3 .given .1)) (c .pass-run .ensures)
 
 enum-known-ask : tie.Need-enum-known-ask Inv-loop μ-loop
 enum-known-ask c = search needs
@@ -116,7 +116,7 @@ lead-spec =
     enum-told-2
     returns-3
     enum-told-3
-    pass-empty-requires
+    pass-run-requires
     loop-less
     loop-again
     enum-known-ask
