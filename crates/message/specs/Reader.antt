@@ -6,10 +6,10 @@ use lib.Dec.{ltb, leb, eqb}
 use lib.ListN.{take, drop}
 use denote.Ref.{RefT}
 use Rattle.words.specs.Numbers.{word}
-use Rattle.message.specs.Outcomes.{done, notResponse, noSuchTag, notAnswered, fewerStored}
+use Rattle.message.specs.Outcomes.{done, notResponse, notAnswered, fewerStored}
 use Rattle.message.specs.Opening.{opened}
 use Rattle.message.specs.Sizes.{header, tagHeader, codePlace}
-use Rattle.message.specs.Walk.{Walk, walkFrom}
+use Rattle.message.specs.Walk.{notMet, Walk, walkFrom}
 use Rattle.message.specs.declared.opening.Opened.{Opened}
 use Rattle.message.specs.declared.opening.Opened.the-variants.{Good, Refused}
 use Rattle.message.specs.declared.reader.Reading.{Reading}
@@ -36,9 +36,9 @@ stored t = min (answerLength t) (t .size)
 abbrev pub unread : ℕ → ℕ → Reading
 unread outcome place = record { outcome = outcome; place = place; length = 0; value = 0; count = 0 }
 
--- the walk ended before the tag that is sought: its fault, or 11
-unfoldable pub unmet : Ending → Reading
-unmet e = cond (eqb (e .outcome) done) (unread noSuchTag 0) (unread (e .outcome) (e .place))
+-- the walk ended before the tag that is sought
+abbrev pub unmet : Ending → Reading
+unmet e = unread (notMet e .outcome) (notMet e .place)
 
 -- the tag that was found: 12 where it is not answered, 13 where fewer bytes are stored than wanted, else L and the first value bytes, as many as wanted
 unfoldable pub judged : Tag → (wanted : ℕ) → Reading

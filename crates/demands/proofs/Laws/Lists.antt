@@ -9,10 +9,10 @@ use Rattle.words.specs.Put.{zeros}
 use Rattle.message.proofs.Laws.Opening.{opened-good}
 use Rattle.message.proofs.Laws.Steps.{step-end}
 use Rattle.message.proofs.Laws.Walks.{walk-tag, walk-end}
-use Rattle.message.specs.Lister.{listed, listedOf, unlisted, missing, nth}
+use Rattle.message.specs.Lister.{listed, listedOf, unlisted, nth}
 use Rattle.message.specs.Outcomes.{done, noSuchTag}
 use Rattle.message.specs.Sizes.{header}
-use Rattle.message.specs.Walk.{tagEnd, step, walkFrom}
+use Rattle.message.specs.Walk.{notMet, tagEnd, step, walkFrom}
 use Rattle.message.specs.declared.lister.Listed.{Listed}
 use Rattle.message.specs.declared.walk.Step.{Step}
 use Rattle.demands.proofs.Laws.Runs.{Whole}
@@ -38,7 +38,7 @@ module _ (m : List ℕ) (size c : ℕ) (inside : c < size) (end : word m c ≡ 0
       rw (walk-tag m size p (finds m p a (h .0) (h .1) size (omega arith))) (rows adds (tagEnd p (a .size)) (h .2) i (omega arith))
 
   behind : (adds : List Add) (p : ℕ) → Holds m p adds c → (i : ℕ) → length adds ≤ i → nth i (walkFrom m size p) ≡ unlisted noSuchTag 0
-  unfolding missing
+  unfolding notMet
   behind [] p h i l = rw (h, walk-end m size c stops)
   behind (a ∷ adds) p h zero l = absurd (omega arith)
   behind (a ∷ adds) p h (suc i) l =

@@ -12,7 +12,7 @@ use Rattle.message.proofs.walk.Step
 use Rattle.message.specs.Lister.{unlisted, missing, shown, nth, listed}
 use Rattle.message.specs.Opening.{opened}
 use Rattle.message.specs.Sizes.{header, largest}
-use Rattle.message.specs.Walk.{Walk, step, endingOf, more, walkFrom, Walking}
+use Rattle.message.specs.Walk.{Walk, step, endingOf, notMet, more, walkFrom, Walking}
 use Rattle.message.specs.declared.lister.Listed.{Listed}
 use Rattle.message.specs.declared.opening.Message.{Message}
 use Rattle.message.specs.declared.opening.Opened.{Opened}
@@ -53,8 +53,8 @@ module _ (m : List ℕ) (size i left p : ℕ) (h : Listing m size i left p) {st 
       ahead = sym (nth-later left t (walkFrom m size next) n) ∙ ap (nth left) (sym (walk-tag m size p (sym es ∙ et))) ∙ h .ahead;
     }
 
-  pub list-stop : OneOf (1 ∷ 2 ∷ []) (tagOf Step.the-type st) → {e : Ending} {r : Listed} → e ≡ endingOf st → r ≡ missing e → r ≡ nth i (walkFrom m size header)
-  list-stop o ee er = er ∙ ap missing ee ∙ ap (nth left) (sym (walk-stop m size p st o (sym es))) ∙ h .ahead
+  pub list-stop : OneOf (1 ∷ 2 ∷ []) (tagOf Step.the-type st) → {e x : Ending} {r : Listed} → e ≡ endingOf st → x ≡ notMet e → r ≡ unlisted (x .outcome) (x .place) → r ≡ nth i (walkFrom m size header)
+  list-stop o ee ex er = rw ex at er ∙ ap missing ee ∙ ap (nth left) (sym (walk-stop m size p st o (sym es))) ∙ h .ahead
 
 -- ---- any bytes
 module _ (m : List ℕ) (i : ℕ) {o : Opened} (e : o ≡ opened m) where

@@ -20,7 +20,7 @@ use Rattle.message.specs.Opening.{goodSize, opened}
 use Rattle.message.specs.Outcomes.{done, tooFewLent, badSize, notResponse, noSuchTag, notAnswered, fewerStored}
 use Rattle.message.specs.Reader.{isResponse, isAnswered, answerLength, stored, unread, unmet, judged, keptTag, withId, occurrenceOf, foundIn, foundIf, foundOf, found, View, view, partOf, shownPart, partIf, shownOr}
 use Rattle.message.specs.Sizes.{header, tagHeader, smallest, largest, codePlace}
-use Rattle.message.specs.Walk.{Walk, tagAt, overruns, stepOf, step, endingOf, more, walk, walkFrom, Walking}
+use Rattle.message.specs.Walk.{Walk, tagAt, overruns, stepOf, step, endingOf, notMet, more, walk, walkFrom, Walking}
 use Rattle.message.specs.declared.opening.Message.{Message}
 use Rattle.message.specs.declared.opening.Opened.{Opened}
 use Rattle.message.specs.declared.opening.Opened.the-variants.{Good, Refused}
@@ -76,8 +76,8 @@ module _ (m : List ℕ) (size id n wanted left p : ℕ) (h : Seeking m size id n
     pub seek-more : t .id ≡ id → (left ≡ 0 → ⊥) → Seeking m size id n wanted (left - 1) next
     seek-more e x = on (left - 1) (found-later id left wanted t (walkFrom m size next) e x)
 
-  pub seek-stop : OneOf (1 ∷ 2 ∷ []) (tagOf Step.the-type st) → {e : Ending} {r : Reading} → e ≡ endingOf st → r ≡ unmet e → r ≡ foundIn id n wanted (walkFrom m size header)
-  seek-stop o ee er = er ∙ ap unmet ee ∙ ap (foundIn id left wanted) (sym (walk-stop m size p st o (sym es))) ∙ h .ahead
+  pub seek-stop : OneOf (1 ∷ 2 ∷ []) (tagOf Step.the-type st) → {e x : Ending} {r : Reading} → e ≡ endingOf st → x ≡ notMet e → r ≡ unread (x .outcome) (x .place) → r ≡ foundIn id n wanted (walkFrom m size header)
+  seek-stop o ee ex er = rw ex at er ∙ ap unmet ee ∙ ap (foundIn id left wanted) (sym (walk-stop m size p st o (sym es))) ∙ h .ahead
 
 -- ---- an opened message
 module _ (m : List ℕ) (size id n wanted : ℕ) {code : ℕ} (ec : code ≡ word m codePlace) {b : Bool} (eb : b ≡ isResponse code) where
@@ -114,12 +114,7 @@ module _ (t : Tag) (wanted : ℕ) where
 
 -- ---- what is read lies in the message
 unmet-within : (e : Ending) (size : ℕ) → unmet e .value + unmet e .count ≤ size
-unfolding unmet
-unmet-within e size = go (eqb (e .outcome) done)
-  where
-    go : (b : Bool) → cond b (unread noSuchTag 0) (unread (e .outcome) (e .place)) .value + cond b (unread noSuchTag 0) (unread (e .outcome) (e .place)) .count ≤ size
-    go true = omega arith
-    go false = omega arith
+unmet-within e size = omega arith
 
 judged-within : (t : Tag) (wanted size : ℕ) → t .at + tagHeader + t .size ≤ size → judged t wanted .value + judged t wanted .count ≤ size
 unfolding judged
@@ -220,11 +215,11 @@ unfolding isResponse
 response-fault {code} e = rw (ne-eqb code 0x8000_0000 (λ z. omega arith), eq-eqb code 0x8000_0001 e)
 
 pub unmet-end : (e : Ending) → e .outcome ≡ done → unmet e ≡ unread noSuchTag 0
-unfolding unmet
+unfolding notMet
 unmet-end e z = rw (eq-eqb (e .outcome) done z)
 
 pub unmet-fault : (e : Ending) → (e .outcome ≡ done → ⊥) → unmet e ≡ unread (e .outcome) (e .place)
-unfolding unmet
+unfolding notMet
 unmet-fault e z = rw (ne-eqb (e .outcome) done z)
 
 module _ (m : List ℕ) {message : Message} (o : opened m ≡ Good message) where
@@ -273,10 +268,10 @@ pub record Met (m : List ℕ) (id n wanted : ℕ) : Type 0 where
   pub enough : Enough tag wanted
 
 unmet-refuses : (e : Ending) → unmet e .outcome ≡ done → ⊥
-unfolding unmet
+unfolding notMet
 unmet-refuses e = go (eqb (e .outcome) done) refl
   where
-    go : (b : Bool) → eqb (e .outcome) done ≡ b → cond b (unread noSuchTag 0) (unread (e .outcome) (e .place)) .outcome ≡ done → ⊥
+    go : (b : Bool) → eqb (e .outcome) done ≡ b → cond b (record { outcome = noSuchTag; place = 0 }) e .outcome ≡ done → ⊥
     go true eb q = omega arith
     go false eb q = eqb-false (e .outcome) done eb q
 

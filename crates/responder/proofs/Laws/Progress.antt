@@ -26,7 +26,7 @@ use Rattle.tags.specs.declared.table.FrameTag.{FrameTag}
 use Rattle.responder.proofs.Laws.Asks.{ask-beyond}
 use Rattle.responder.proofs.Laws.Serving.{serve-start, serve-stop, serve-short, serve-pass, serve-left}
 use Rattle.responder.proofs.Laws.Trails.{in-message}
-use Rattle.responder.specs.Ask.{askOf, Named, InMessage}
+use Rattle.responder.specs.Ask.{askOf, Within, Named, InMessage}
 use Rattle.responder.specs.Progress.{Ahead, Through, Passes, Leads, Came, Leading, whole, partly, Led, refused, walked, Begun, led, stopped, Ready}
 use Rattle.responder.specs.Requests.{Request, requestOf}
 use Rattle.responder.specs.declared.ask.Ask.{Ask}
@@ -34,15 +34,9 @@ use Rattle.responder.specs.declared.lead.GroupAsk.{GroupAsk}
 use Rattle.responder.specs.declared.progress.Progress.{Progress}
 
 -- ---- what a tag asks of the group
-module _ (r : Request) {g : GroupAsk} (h : Leads g (askOf r)) where
-  pub leads-pass : g ≡ GroupAsk.Pass → Named (askOf r) Ask.Pass
-  leads-pass e = record { is = sym (subst (λ (x : GroupAsk). Leads x (askOf r)) e h); within = tt }
-
-  pub leads-short : g ≡ GroupAsk.Short → Named (askOf r) Ask.Short
-  leads-short e = record { is = sym (subst (λ (x : GroupAsk). Leads x (askOf r)) e h); within = tt }
-
-  pub leads-frame : {t : FrameTag} {a x : ℕ} → g ≡ GroupAsk.Frame t a x → Named (askOf r) (Ask.Frame t a x)
-  leads-frame e = record { is = sym (subst (λ (y : GroupAsk). Leads y (askOf r)) e h); within = tt }
+-- where a case of the group's ask says what the tag asks, it asks that
+leads-named : (r : Request) {g x : GroupAsk} {q : Ask} → Leads g (askOf r) → g ≡ x → (Leads x (askOf r) → askOf r ≡ q) → Within q → Named (askOf r) q
+leads-named r h e says w = record { is = sym (says (subst (λ (y : GroupAsk). Leads y (askOf r)) e h)); within = w }
 
 -- ---- a message that is led
 -- at p, on any record with the settings with which the operation o₀ began
@@ -75,18 +69,18 @@ module _ (m : List ℕ) (size : ℕ) (o₀ o : Operation) (p : ℕ) (h : LeadsOn
       pub leads-past : g ≡ GroupAsk.Pass → LeadsOn m size o₀ o next
       leads-past e = record {
         walking = next-walking;
-        ahead = λ b eb l. serve-pass (mixed (b .display)) m size b m b o p (h .ahead b eb l) es et (leads-pass (requestOf m t) eg e) refl;
+        ahead = λ b eb l. serve-pass (mixed (b .display)) m size b m b o p (h .ahead b eb l) es et (leads-named (requestOf m t) eg e (λ z. z) tt) refl;
       }
 
       pub leads-note : {k : FrameTag} {a x : ℕ} {o′ : Operation} → g ≡ GroupAsk.Frame k a x → o′ ≡ noted k a x o → LeadsOn m size o₀ o′ next
       leads-note e eo = record {
         walking = next-walking;
-        ahead = λ b eb l. serve-left (mixed (b .display)) m size b m b o p (h .ahead b eb l) es et (leads-frame (requestOf m t) eg e) refl refl eo;
+        ahead = λ b eb l. serve-left (mixed (b .display)) m size b m b o p (h .ahead b eb l) es et (leads-named (requestOf m t) eg e (λ z. z) tt) refl refl eo;
       }
 
       pub leads-cut : g ≡ GroupAsk.Short → (b : Board) → o₀ ≡ unasked (b .display .settings) → length (b .line) ≤ 256
           → Through (mixed (b .display)) m size b m b o (record { outcome = shortRequest; place = p })
-      leads-cut e b eb l = serve-short (mixed (b .display)) m size b m b o p (h .ahead b eb l) es et (leads-short (requestOf m t) eg e) refl
+      leads-cut e b eb l = serve-short (mixed (b .display)) m size b m b o p (h .ahead b eb l) es et (leads-named (requestOf m t) eg e (λ z. z) tt) refl
 
 -- over a run of tags that are passed over
 pub leads-over : (m : List ℕ) (size : ℕ) (o₀ o : Operation) (p q : ℕ) → LeadsOn m size o₀ o p → Passes m size p q → LeadsOn m size o₀ o q
