@@ -33,6 +33,10 @@ module _ (f : Place → Ask) {id first count : ℕ} {r : Place} (p : Placed id f
   pub named-unlisted : r ≡ Place.Unlisted → {q : Ask} → q ≡ f Place.Unlisted → Within q → Named (f (placeOf id first count)) q
   named-unlisted e eq w = record { is = eq ∙ ap f (sym e ∙ p .is); within = w }
 
+-- ---- what a kind of tag asks
+pub named-kind : (a x : ℕ) {k k′ : Kind} {r : Ask} → k ≡ k′ → Named (kindAsk k′ a x) r → Named (kindAsk k a x) r
+named-kind a x e n = rw e n
+
 -- ---- a word of a request
 module _ (m : List ℕ) (value count at : ℕ) (f : RequestFits (length m) value count at) where
   pub word-none : count ≤ at → 0 ≡ word (take count (drop value m)) at

@@ -18,7 +18,9 @@ enum-told : tie.Need-enum-told
 enum-told c = search needs
 
 returns-2 : tie.Need-returns-2
-returns-2 c = search ask-unknown
+returns-2 c =
+    let at-row-of = c .before .before in
+    ask-unknown _ _ (at-row-of .before .if1 .left) (at-row-of .row-of .ensures) (c .enum-told .given .1)
 
 cast-if2 : tie.Need-cast-if2
 cast-if2 c = search needs

@@ -1,3 +1,5 @@
+use mathlib.Core.Path.{refl}
+use Rattle.responder.proofs.Laws.Asks.{named-kind}
 use Rattle.responder.specs.Ask.{kindAsk}
 use borrow.Author.Needs.{needs}
 use Rattle.responder.proofs.ask.ask_kind.Statement.{statement}
@@ -32,27 +34,27 @@ enum-known-kind-6 c = search needs
 
 returns : tie.Need-returns
 unfolding kindAsk
-returns c = record { is = rw (c .before .kind .given .1); within = tt }
+returns c = named-kind _ _ (c .before .kind .given .1) (record { is = refl; within = tt })
 
 returns-2 : tie.Need-returns-2
 unfolding kindAsk
-returns-2 c = rw (c .before .before .kind2 .given .1) (c .ask-power .ensures)
+returns-2 c = named-kind _ _ (c .before .before .kind2 .given .1) (c .ask-power .ensures)
 
 returns-3 : tie.Need-returns-3
 unfolding kindAsk
-returns-3 c = rw (c .before .before .kind3 .given .1) (c .ask-clock .ensures)
+returns-3 c = named-kind _ _ (c .before .before .kind3 .given .1) (c .ask-clock .ensures)
 
 returns-4 : tie.Need-returns-4
 unfolding kindAsk
-returns-4 c = rw (c .before .before .kind4 .given .1) (c .ask-voltage .ensures)
+returns-4 c = named-kind _ _ (c .before .before .kind4 .given .1) (c .ask-voltage .ensures)
 
 returns-5 : tie.Need-returns-5
 unfolding kindAsk
-returns-5 c = record { is = rw (c .before .kind5 .given .1); within = tt }
+returns-5 c = named-kind _ _ (c .before .kind5 .given .1) (record { is = refl; within = tt })
 
 returns-6 : tie.Need-returns-6
 unfolding kindAsk
-returns-6 c = record { is = rw (c .before .kind6 .given .1); within = tt }
+returns-6 c = named-kind _ _ (c .before .kind6 .given .1) (record { is = refl; within = tt })
 
 pub ask-kind-spec : {M : Type 1} → statement M
 ask-kind-spec =

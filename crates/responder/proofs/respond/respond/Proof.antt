@@ -9,10 +9,10 @@ begin-requires : tie.Need-begin-requires
 begin-requires c κs = search needs
 
 carry-on-requires : tie.Need-carry-on-requires
-carry-on-requires c κs = search needs
+carry-on-requires c κs = (c .before .before .before .before .begin .ensures .0, c .before .if1 .taken)
 
 finish-requires : tie.Need-finish-requires
-finish-requires c κs = search needs
+finish-requires c κs = ready (c .before .before .before .carry-on .ensures)
 
 same-length : tie.Need-same-length
 same-length c = search needs
