@@ -11,8 +11,8 @@ use Rattle.words.specs.Put.{put}
 use Rattle.message.specs.Sizes.{header, tagHeader, codePlace}
 use Rattle.message.specs.Walk.{wordPlace}
 use Rattle.message.specs.declared.walk.Tag.{Tag}
-use Rattle.tags.specs.Reply.{answered}
-use Rattle.responder.proofs.Laws.Endings.{ending-known}
+use Rattle.answers.specs.Reply.{answered}
+use Rattle.requests.proofs.Laws.Endings.{ending-known}
 use Rattle.responder.proofs.Laws.Written.{writes-length}
 use Rattle.responder.specs.Answers.{Said, silent, says}
 use Rattle.responder.specs.Reply.{writeAll, codeOf, served, reply}

@@ -16,9 +16,9 @@ use Rattle.board.specs.declared.record.Board.{Board}
 use Rattle.tags.proofs.Laws.Kept.{outside-valid}
 use Rattle.display.proofs.Laws.Kept.{decided-valid}
 use Rattle.display.specs.declared.operation.Operation.{Operation}
-use Rattle.responder.specs.Answers.{groupBy, groupOf, afterBy, after, first, second}
+use Rattle.requests.specs.Requests.{first, second, Request, passed, short, asks, trail}
+use Rattle.responder.specs.Answers.{groupBy, groupOf, afterBy, after}
 use Rattle.responder.specs.Reply.{served, codedIf, openedIf, reply, withDisplay}
-use Rattle.responder.specs.Requests.{Request, passed, short, asks, trail}
 use Rattle.demands.specs.Kept.{Kept}
 
 request-valid : (b : Board) (r : Request) → valid b ≡ true → valid (afterBy b r) ≡ true

@@ -18,11 +18,11 @@ use Rattle.message.specs.declared.reader.Reading.{Reading}
 use Rattle.message.specs.declared.walk.Ending.{Ending}
 use Rattle.message.specs.declared.walk.Tag.{Tag}
 use Rattle.board.specs.declared.record.Board.{Board}
+use Rattle.display.specs.declared.decision.Decision.{Decision}
+use Rattle.requests.specs.Requests.{Request, trail}
 use Rattle.responder.specs.Answers.{Said, silent, says, groupOf, answers, after}
 use Rattle.responder.specs.Reply.{withDisplay, served, reply}
-use Rattle.responder.specs.Requests.{Request, trail}
 use Rattle.responder.specs.declared.respond.Served.{Served}
-use Rattle.display.specs.declared.decision.Decision.{Decision}
 use Rattle.demands.proofs.Laws.Alike.{requests-same, walk-done, Pair, paired-after, paired-words, At, alike-at, alike-length, alike-occurrence}
 use Rattle.demands.proofs.Laws.Replied.{Replied, untouched, walked, replied, clash}
 use Rattle.demands.proofs.ReadingBack.{reads, found-left}

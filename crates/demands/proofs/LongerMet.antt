@@ -14,7 +14,7 @@ use Rattle.message.specs.declared.walk.Tag.{Tag}
 use Rattle.board.specs.Bench.{bench}
 use Rattle.board.specs.Display.{pitch, need, sides, depths, offsets, possible, supported}
 use Rattle.board.specs.Valid.{validFacts, validState, validDevice, validClock, validVoltage, validBuffer, validDisplay, valid}
-use Rattle.tags.specs.Answer.{answerBytes}
+use Rattle.answers.specs.Answer.{answerBytes}
 use Rattle.tags.specs.Fact.{factAnswer}
 use Rattle.tags.specs.Outside.{outsideAnswer, outsideAfter}
 use Rattle.tags.specs.Table.{outsideTags, groupTags, table, rowOf}
@@ -26,9 +26,9 @@ use Rattle.tags.specs.declared.table.Row.{Row}
 use Rattle.tags.specs.declared.table.Setting.{Setting}
 use Rattle.display.specs.Decision.{oneBit, placedAt, allocatable, fitsBuffer, accepted, decided, groupAnswer}
 use Rattle.display.specs.Operation.{withSetting, noted}
+use Rattle.requests.specs.Requests.{valueOf, requestBytes, requestBy, requestOf, trail}
 use Rattle.responder.specs.Answers.{silent, says, groupOf, saidBy, afterBy}
 use Rattle.responder.specs.Reply.{served, reply}
-use Rattle.responder.specs.Requests.{valueOf, requestBytes, requestBy, requestOf, trail}
 use Rattle.demands.proofs.Longer.{longer-is}
 use Rattle.demands.proofs.ReadingBack.{reads}
 use Rattle.demands.specs.Examples.{bytes}

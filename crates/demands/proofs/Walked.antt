@@ -14,14 +14,14 @@ use Rattle.message.specs.Sizes.{header, codePlace}
 use Rattle.message.specs.Walk.{walkFrom}
 use Rattle.board.specs.Valid.{valid}
 use Rattle.board.specs.declared.record.Board.{Board}
+use Rattle.requests.specs.Requests.{trail}
 use Rattle.responder.specs.Answers.{groupOf}
 use Rattle.responder.specs.Reply.{writeAll, codeOf, served, reply}
-use Rattle.responder.specs.Requests.{trail}
 use Rattle.responder.proofs.Laws.Follows.{Follows, follows, follows-walk, follows-same}
-use Rattle.demands.proofs.Laws.Replied.{Replied, untouched, walked, replied, clash}
-use Rattle.demands.proofs.Laws.Rewritten.{follows-written}
 use Rattle.responder.proofs.Laws.Saids.{saids-short, few-characters}
 use Rattle.responder.proofs.Laws.Written.{cut-writes, writes-before}
+use Rattle.demands.proofs.Laws.Replied.{Replied, untouched, walked, replied, clash}
+use Rattle.demands.proofs.Laws.Rewritten.{follows-written}
 use Rattle.demands.specs.Changes.{trailOf, saidOf}
 use Rattle.demands.specs.Walked.{tagsAfter, walkOf, Walked}
 

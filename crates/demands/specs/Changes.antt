@@ -10,9 +10,9 @@ use Rattle.message.specs.Sizes.{header, tagHeader, codePlace}
 use Rattle.message.specs.Walk.{wordPlace}
 use Rattle.message.specs.declared.walk.Tag.{Tag}
 use Rattle.board.specs.declared.record.Board.{Board}
+use Rattle.requests.specs.Requests.{Trail, trail}
 use Rattle.responder.specs.Answers.{Said, silent, says, groupOf, answers}
 use Rattle.responder.specs.Reply.{reply}
-use Rattle.responder.specs.Requests.{Trail, trail}
 
 -- the byte at i lies before or behind the n bytes from a on
 abbrev pub Outside : (i a n : ℕ) → Type 0

@@ -11,9 +11,9 @@ use Rattle.board.specs.declared.record.Board.{Board}
 use Rattle.tags.specs.Table.{rowOf}
 use Rattle.tags.specs.declared.table.Kind.{Kind}
 use Rattle.tags.specs.declared.table.Row.{Row}
+use Rattle.requests.specs.Requests.{valueOf, requestBytes}
 use Rattle.responder.specs.Answers.{says}
 use Rattle.responder.specs.Reply.{reply}
-use Rattle.responder.specs.Requests.{valueOf, requestBytes}
 use Rattle.demands.specs.ReadingBack.{tagOf, occurrence, saidAt, readingOf}
 use Rattle.demands.specs.Walked.{walkOf, Six}
 

@@ -8,7 +8,7 @@ use Rattle.board.specs.Bench.{benchDisplay}
 use Rattle.board.specs.Display.{pitchOf, pitch, need, sides, depths, offsets, possible, supported}
 use Rattle.board.specs.declared.display.Display.{Display}
 use Rattle.board.specs.declared.facts.Span.{Span}
-use Rattle.tags.specs.declared.answer.Answer.{Answer}
+use Rattle.answers.specs.declared.answer.Answer.{Answer}
 use Rattle.tags.specs.declared.table.FrameTag.{FrameTag}
 use Rattle.tags.specs.declared.table.Mode.{Mode}
 use Rattle.tags.specs.declared.table.Setting.{Setting}

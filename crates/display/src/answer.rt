@@ -1,6 +1,6 @@
 // What the tags of the group answer.
 use crate::decision::Decision;
-use tags::answer::Answer;
+use answers::answer::Answer;
 ghost use mathlib.Core.Path.{_≡_};
 ghost use Rattle.tags.specs.Table.{rowOf};
 ghost use Rattle.display.specs.Decision.{toldBy};

@@ -1,9 +1,6 @@
-pub mod Asks
 pub mod Said
 pub mod Saids
-pub mod Trails
 pub mod Serving
-pub mod Endings
 pub mod Follows
 pub mod Written
 pub mod Twice

@@ -3,26 +3,18 @@ use mathlib.Core.Bool.{Bool, true, false, cond}
 use mathlib.Core.List.{List, [], _∷_}
 use Prim.Native.Nat.{ℕ}
 use lib.Dec.{eqb}
-use Rattle.words.specs.Numbers.{word}
 use Rattle.message.specs.Outcomes.{done}
 use Rattle.message.specs.declared.walk.Ending.{Ending}
 use Rattle.board.specs.declared.display.Display.{Display}
 use Rattle.board.specs.declared.record.Board.{Board}
-use Rattle.tags.specs.Answer.{answerBytes}
+use Rattle.answers.specs.Answer.{answerBytes}
 use Rattle.tags.specs.Outside.{outsideAnswer, outsideAfter}
 use Rattle.tags.specs.declared.table.Kind.{Kind}
 use Rattle.display.specs.Decision.{decided, mixed, groupAnswer}
 use Rattle.display.specs.Operation.{unasked, noted}
 use Rattle.display.specs.declared.decision.Decision.{Decision}
 use Rattle.display.specs.declared.operation.Operation.{Operation}
-use Rattle.responder.specs.Requests.{Request, passed, short, asks}
-
--- the first and the second word of a request, 0 where it has none
-abbrev pub first : List ℕ → ℕ
-first bytes = word bytes 0
-
-abbrev pub second : List ℕ → ℕ
-second bytes = word bytes 4
+use Rattle.requests.specs.Requests.{Request, passed, short, asks, first, second}
 
 -- ---- the frame buffer group: all its requests form one operation
 abbrev pub noteBy : Request → Operation → Operation

@@ -1,6 +1,5 @@
-pub mod Requests
 pub mod Answers
 pub mod Reply
-pub mod Ask
+pub mod Asked
 pub mod Serve
 pub mod Progress

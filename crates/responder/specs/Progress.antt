@@ -17,12 +17,10 @@ use Rattle.display.specs.Decision.{mixed}
 use Rattle.display.specs.Operation.{unasked}
 use Rattle.display.specs.declared.decision.Decision.{Decision}
 use Rattle.display.specs.declared.operation.Operation.{Operation}
+use Rattle.requests.specs.Requests.{Request, passed, short, asks, trail}
 use Rattle.responder.specs.Answers.{operation, after}
 use Rattle.responder.specs.Reply.{withDisplay, served, reply}
-use Rattle.responder.specs.Requests.{Request, passed, short, asks, trail}
 use Rattle.responder.specs.Serve.{bytesOf}
-use Rattle.responder.specs.declared.ask.Ask.{Ask}
-use Rattle.responder.specs.declared.lead.GroupAsk.{GroupAsk}
 use Rattle.responder.specs.declared.progress.Progress.{Progress}
 use Rattle.responder.specs.declared.respond.Served.{Served}
 
@@ -51,14 +49,6 @@ pub record Passes (m : List ℕ) (size p q : ℕ) : Type 0 where
   pub walking : Walking m size q
   pub later : p ≤ q
   pub ahead : (b : Board) (o : Operation) → Ahead (mixed (b .display)) m size b m b o p → Ahead (mixed (b .display)) m size b m b o q
-
--- ---- the tags that lead a message
--- what a tag asks of the group is what it asks; a tag that may stand outside the group may ask anything
-abbrev pub Leads : GroupAsk → Ask → Type 0
-Leads GroupAsk.Pass q = q ≡ Ask.Pass
-Leads GroupAsk.Short q = q ≡ Ask.Short
-Leads (GroupAsk.Frame t a x) q = q ≡ Ask.Frame t a x
-Leads GroupAsk.Outside q = Unit {0}
 
 -- ---- a message m₀ and a record b₀, as far as they have come with m, b and p
 -- the message is refused

@@ -14,10 +14,10 @@ use Rattle.message.specs.declared.walk.Tag.{Tag}
 use Rattle.board.specs.Valid.{valid}
 use Rattle.board.specs.declared.display.Display.{Display}
 use Rattle.board.specs.declared.record.Board.{Board}
-use Rattle.tags.specs.Reply.{answered}
+use Rattle.answers.specs.Reply.{answered}
 use Rattle.display.specs.declared.decision.Decision.{Decision}
+use Rattle.requests.specs.Requests.{Trail, trail}
 use Rattle.responder.specs.Answers.{Said, silent, says, groupOf, answers, after}
-use Rattle.responder.specs.Requests.{Trail, trail}
 use Rattle.responder.specs.declared.respond.Served.{Served}
 
 -- ---- writes

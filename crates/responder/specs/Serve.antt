@@ -7,9 +7,9 @@ use Rattle.board.specs.declared.record.Board.{Board}
 use Rattle.display.specs.Decision.{mixed}
 use Rattle.display.specs.declared.decision.Decision.{Decision}
 use Rattle.display.specs.declared.operation.Operation.{Operation}
+use Rattle.requests.specs.Requests.{Trail}
 use Rattle.responder.specs.Answers.{groupBy, groupOf, answers}
 use Rattle.responder.specs.Reply.{writeAll}
-use Rattle.responder.specs.Requests.{Trail}
 
 abbrev pub bytesOf : Decision → Board → Trail → List ℕ → List ℕ
 bytesOf g b tr m = writeAll (tr .tags) (answers g b (tr .requests)) m

@@ -1,24 +1,24 @@
 // The walk on the record: each tag outside the group is answered where it stands, in order, and
 // those of the group are noted. The record is the loop's own variable, and only one item of it goes
 // through a call.
-use crate::ask::Ask;
-use crate::ask::ask_at;
 use crate::progress::Carried;
 use crate::progress::Progress;
 use crate::progress::walked;
+use answers::reply::put_answer;
+use answers::reply::put_pair;
 use board::record::Board;
 use display::operation::note;
 use message::outcome;
 use message::walk::Step;
 use message::walk::ended;
 use message::walk::step_at;
+use requests::ask::Ask;
+use requests::ask::ask_at;
 use tags::clock::clock_after;
 use tags::clock::clock_value;
 use tags::fact::answer_fact;
 use tags::power::power_after;
 use tags::power::power_value;
-use tags::reply::put_answer;
-use tags::reply::put_pair;
 use tags::temperature::temperature_value;
 use tags::voltage::voltage_after;
 use tags::voltage::voltage_value;

@@ -1,5 +1,6 @@
 // The frame buffer group of a message that was walked: decided, and answered.
 use crate::progress::Progress;
+use answers::reply::put_answer;
 use board::display::Display;
 use board::record::Board;
 use display::answer::Told;
@@ -12,7 +13,6 @@ use message::opening::Message;
 use message::outcome;
 use message::walk::Step;
 use message::walk::step_at;
-use tags::reply::put_answer;
 use words::numbers::put_u32;
 ghost use mathlib.Core.Bool.{true};
 ghost use mathlib.Core.Path.{_≡_};
@@ -20,9 +20,9 @@ ghost use lib.Dec.{eqb};
 ghost use Rattle.message.specs.Outcomes.{done};
 ghost use Rattle.message.specs.Sizes.{header};
 ghost use Rattle.board.specs.Valid.{validDisplay};
+ghost use Rattle.requests.specs.Requests.{trail};
 ghost use Rattle.responder.specs.Progress.{Answerable, Ready, Concluded};
 ghost use Rattle.responder.specs.Reply.{codeOf};
-ghost use Rattle.responder.specs.Requests.{trail};
 ghost use Rattle.responder.specs.Serve.{bytesOf, asked, groupFor};
 
 // Whether the message has a group tag.

@@ -1,5 +1,4 @@
 // The responder: the emulated board serves a message.
-pub mod ask;
 pub mod carry;
 pub mod group;
 pub mod lead;

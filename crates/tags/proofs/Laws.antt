@@ -1,4 +1,3 @@
-pub mod Answers
 pub mod Find
 pub mod Items
 pub mod Kept

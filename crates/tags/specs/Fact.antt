@@ -1,7 +1,7 @@
 -- Fixed facts.
 use Rattle.board.specs.declared.facts.Facts.{Facts}
 use Rattle.board.specs.declared.facts.Span.{Span}
-use Rattle.tags.specs.declared.answer.Answer.{Answer}
+use Rattle.answers.specs.declared.answer.Answer.{Answer}
 use Rattle.tags.specs.declared.table.FactTag.{FactTag}
 
 abbrev pub spanAnswer : Span → Answer

@@ -1,5 +1,4 @@
 pub mod Table
-pub mod Answer
 pub mod Fact
 pub mod Place
 pub mod State
@@ -8,4 +7,3 @@ pub mod Clock
 pub mod Voltage
 pub mod Temperature
 pub mod Outside
-pub mod Reply

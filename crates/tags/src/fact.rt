@@ -1,6 +1,6 @@
 // Fixed facts.
-use crate::answer::Answer;
 use crate::table::FactTag;
+use answers::answer::Answer;
 use board::facts::Facts;
 ghost use mathlib.Core.Path.{_≡_};
 ghost use Rattle.tags.specs.Fact.{factAnswer};

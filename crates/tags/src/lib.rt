@@ -1,10 +1,8 @@
 // The table of known tags, and the answers of those outside the frame buffer group.
-pub mod answer;
 pub mod clock;
 pub mod fact;
 pub mod place;
 pub mod power;
-pub mod reply;
 pub mod state;
 pub mod table;
 pub mod temperature;

@@ -15,8 +15,8 @@ use Rattle.message.specs.declared.walk.Tag.{Tag}
 use Rattle.tags.specs.Table.{rowOf}
 use Rattle.tags.specs.declared.table.Kind.{Kind}
 use Rattle.tags.specs.declared.table.Row.{Row}
+use Rattle.requests.specs.Requests.{Request, passed, short, asks, valueOf, isResponse, requestBytes, requestBy, requestOf, Trail, cutBy, cut}
 use Rattle.responder.specs.Answers.{Said, silent, says}
-use Rattle.responder.specs.Requests.{Request, passed, short, asks, valueOf, isResponse, requestBytes, requestBy, requestOf, Trail, cutBy, cut}
 use Rattle.demands.specs.Longer.{SameRequest, Alike}
 use Rattle.demands.specs.ReadingBack.{noTag}
 use Rattle.demands.specs.Walked.{tagsAfter}

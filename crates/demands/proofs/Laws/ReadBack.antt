@@ -16,7 +16,7 @@ use Rattle.message.specs.Reader.{unread, keptTag, withId, judged, answerLength,
 use Rattle.message.specs.Sizes.{tagHeader}
 use Rattle.message.specs.declared.walk.Ending.{Ending}
 use Rattle.message.specs.declared.walk.Tag.{Tag}
-use Rattle.tags.specs.Reply.{answered}
+use Rattle.answers.specs.Reply.{answered}
 use Rattle.responder.specs.Answers.{Said, silent, says}
 use Rattle.responder.specs.Reply.{writeAll}
 use Rattle.responder.proofs.Laws.Follows.{Follows, follows-same}

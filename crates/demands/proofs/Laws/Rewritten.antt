@@ -9,7 +9,7 @@ use Rattle.message.proofs.Laws.Steps.{found}
 use Rattle.message.specs.Walk.{wordPlace, tagAt}
 use Rattle.message.specs.declared.walk.Ending.{Ending}
 use Rattle.message.specs.declared.walk.Tag.{Tag}
-use Rattle.tags.specs.Reply.{answered}
+use Rattle.answers.specs.Reply.{answered}
 use Rattle.responder.proofs.Laws.Follows.{Follows}
 use Rattle.responder.proofs.Laws.Saids.{Short}
 use Rattle.responder.proofs.Laws.Written.{answered-length, answered-word, rest₁, reworded}

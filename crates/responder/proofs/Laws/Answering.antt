@@ -18,10 +18,10 @@ use Rattle.message.specs.declared.walk.Ending.{Ending}
 use Rattle.message.specs.declared.walk.Step.{Step}
 use Rattle.message.specs.declared.walk.Tag.{Tag}
 use Rattle.board.specs.declared.record.Board.{Board}
-use Rattle.tags.specs.Answer.{answerBytes}
-use Rattle.tags.specs.Reply.{answered, AnswerFits}
+use Rattle.answers.specs.Answer.{answerBytes}
+use Rattle.answers.specs.Reply.{answered, AnswerFits}
+use Rattle.answers.specs.declared.answer.Answer.{Answer}
 use Rattle.tags.specs.Table.{rowOf}
-use Rattle.tags.specs.declared.answer.Answer.{Answer}
 use Rattle.tags.specs.declared.table.FrameTag.{FrameTag}
 use Rattle.tags.specs.declared.table.Kind.{Kind}
 use Rattle.tags.specs.declared.table.Row.{Row}
@@ -30,14 +30,13 @@ use Rattle.display.specs.Operation.{unasked}
 use Rattle.display.specs.declared.answer.Told.{Told}
 use Rattle.display.specs.declared.decision.Decision.{Decision}
 use Rattle.display.specs.declared.operation.Operation.{Operation}
+use Rattle.requests.proofs.Laws.Trails.{trail-tag, request-same}
+use Rattle.requests.specs.Requests.{first, second, Request, passed, short, asks, requestBytes, requestBy, requestOf, valueOf, Trail, cutBy, trail}
+use Rattle.requests.specs.Ask.{askOf, kindAsk, Named}
+use Rattle.requests.specs.declared.ask.Ask.{Ask}
 use Rattle.responder.proofs.Laws.Serving.{again-start, serve-stop, serve-less, serve-fits, serve-pass, serve-frame}
-use Rattle.responder.proofs.Laws.Trails.{trail-tag, request-same}
-use Rattle.responder.specs.Answers.{first, second}
-use Rattle.responder.specs.Ask.{askOf, kindAsk, Named}
 use Rattle.responder.specs.Progress.{Ahead, OnlyGroup, Answerable}
-use Rattle.responder.specs.Requests.{Request, passed, short, asks, requestBytes, requestBy, requestOf, valueOf, Trail, cutBy, trail}
 use Rattle.responder.specs.Serve.{bytesOf}
-use Rattle.responder.specs.declared.ask.Ask.{Ask}
 
 pub record Answering (g : Decision) (m₀ : List ℕ) (size : ℕ) (b : Board) (m : List ℕ) (p : ℕ) : Type 0 where
   pub ahead : Ahead g m₀ size b m b (unasked (b .display .settings)) p

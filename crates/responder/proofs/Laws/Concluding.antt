@@ -22,6 +22,7 @@ use Rattle.display.specs.Decision.{mixed}
 use Rattle.display.specs.Operation.{unasked}
 use Rattle.display.specs.declared.decision.Decision.{Decision}
 use Rattle.display.specs.declared.operation.Operation.{Operation}
+use Rattle.requests.specs.Requests.{Trail, trail}
 use Rattle.responder.proofs.Laws.Group.{answers-unanswered, without, display-without}
 use Rattle.responder.proofs.Laws.Saids.{few-characters, after-display}
 use Rattle.responder.proofs.Laws.Twice.{SameFixed, after-fixed, Twice, twice}
@@ -29,7 +30,6 @@ use Rattle.responder.proofs.Laws.Written.{writes-length}
 use Rattle.responder.specs.Answers.{Said, operation, groupBy, groupOf, answers, after}
 use Rattle.responder.specs.Progress.{Through, Came, Led, refused, walked, Ready, Concluded, Answerable}
 use Rattle.responder.specs.Reply.{writeAll, codeOf, withDisplay, served, reply}
-use Rattle.responder.specs.Requests.{Trail, trail}
 use Rattle.responder.specs.Serve.{bytesOf, groupIn, asked, groupFor}
 use Rattle.responder.specs.declared.progress.Progress.{Progress}
 

@@ -17,8 +17,8 @@ use Rattle.display.specs.Decision.{mixed, decided}
 use Rattle.display.specs.Operation.{unasked, noted}
 use Rattle.display.specs.declared.decision.Decision.{Decision}
 use Rattle.display.specs.declared.operation.Operation.{Operation}
-use Rattle.responder.specs.Answers.{Said, first, second, noteBy, operation, groupBy, saidBy, afterBy, answers}
-use Rattle.responder.specs.Requests.{Request, passed, short, asks}
+use Rattle.requests.specs.Requests.{first, second, Request, passed, short, asks}
+use Rattle.responder.specs.Answers.{Said, noteBy, operation, groupBy, saidBy, afterBy, answers}
 use Rattle.responder.specs.Serve.{asked, groupFor}
 
 -- ---- a group that is not answered says nothing, whatever was decided

@@ -18,19 +18,19 @@ use Rattle.message.specs.declared.walk.Ending.{Ending}
 use Rattle.message.specs.declared.walk.Step.{Step}
 use Rattle.message.specs.declared.walk.Tag.{Tag}
 use Rattle.board.specs.declared.record.Board.{Board}
+use Rattle.tags.specs.Table.{tableEnd}
+use Rattle.tags.specs.declared.table.FrameTag.{FrameTag}
 use Rattle.display.specs.Decision.{mixed}
 use Rattle.display.specs.Operation.{unasked, noted}
 use Rattle.display.specs.declared.operation.Operation.{Operation}
-use Rattle.tags.specs.Table.{tableEnd}
-use Rattle.tags.specs.declared.table.FrameTag.{FrameTag}
-use Rattle.responder.proofs.Laws.Asks.{ask-beyond}
+use Rattle.requests.proofs.Laws.Asks.{ask-beyond}
+use Rattle.requests.proofs.Laws.Trails.{in-message}
+use Rattle.requests.specs.Ask.{askOf, Within, Named, InMessage, Leads}
+use Rattle.requests.specs.Requests.{Request, requestOf}
+use Rattle.requests.specs.declared.ask.Ask.{Ask}
+use Rattle.requests.specs.declared.group.GroupAsk.{GroupAsk}
 use Rattle.responder.proofs.Laws.Serving.{serve-start, serve-stop, serve-short, serve-pass, serve-left}
-use Rattle.responder.proofs.Laws.Trails.{in-message}
-use Rattle.responder.specs.Ask.{askOf, Within, Named, InMessage}
-use Rattle.responder.specs.Progress.{Ahead, Through, Passes, Leads, Came, Leading, whole, partly, Led, refused, walked, Begun, led, stopped, Ready}
-use Rattle.responder.specs.Requests.{Request, requestOf}
-use Rattle.responder.specs.declared.ask.Ask.{Ask}
-use Rattle.responder.specs.declared.lead.GroupAsk.{GroupAsk}
+use Rattle.responder.specs.Progress.{Ahead, Through, Passes, Came, Leading, whole, partly, Led, refused, walked, Begun, led, stopped, Ready}
 use Rattle.responder.specs.declared.progress.Progress.{Progress}
 
 -- ---- what a tag asks of the group

@@ -3,7 +3,7 @@ use mathlib.Core.Path.{_≡_, refl}
 use Prim.Native.Nat.{ℕ}
 use Rattle.board.specs.Items.{noDevice, noClock, noVoltage}
 use Rattle.board.specs.declared.record.Board.{Board}
-use Rattle.tags.specs.Answer.{answerBytes}
+use Rattle.answers.specs.Answer.{answerBytes}
 use Rattle.tags.specs.Clock.{clockPlace, clockAfter, clockValue}
 use Rattle.tags.specs.Outside.{outsideAnswer, outsideAfter, withDevices, withClocks, withVoltages}
 use Rattle.tags.specs.Place.{item, change}
@@ -13,10 +13,11 @@ use Rattle.tags.specs.declared.place.Place.{Place}
 use Rattle.tags.specs.declared.table.Kind.{Kind}
 use Rattle.display.specs.declared.decision.Decision.{Decision}
 use Rattle.display.specs.declared.operation.Operation.{Operation}
-use Rattle.responder.specs.Answers.{first, second, noteBy, saidBy, afterBy}
-use Rattle.responder.specs.Ask.{powerAt, clockAt, voltageAt, kindAsk, askOf, saidOf, afterOf, noteOf, pair}
-use Rattle.responder.specs.Requests.{Request, passed, short, asks}
-use Rattle.responder.specs.declared.ask.Ask.{Ask}
+use Rattle.requests.specs.Requests.{first, second, Request, passed, short, asks}
+use Rattle.requests.specs.Ask.{powerAt, clockAt, voltageAt, kindAsk, askOf}
+use Rattle.requests.specs.declared.ask.Ask.{Ask}
+use Rattle.responder.specs.Answers.{noteBy, saidBy, afterBy}
+use Rattle.responder.specs.Asked.{saidOf, afterOf, noteOf, pair}
 
 -- ---- what is said
 -- what holds of each item's place, and of an id that is not listed, holds of every place

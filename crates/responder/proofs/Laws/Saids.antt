@@ -6,28 +6,23 @@ use Prim.Native.Nat.{ℕ, _^_, _≤_, _<_}
 use native.Mathlib.Omega.{arith}
 use borrow.Author.Tests.{leb-true}
 use lib.Dec.{leb, ltb}
-use lib.ListN.{length, length-take}
+use lib.ListN.{length}
 use Rattle.board.proofs.Laws.Valid.{valid-parts}
 use Rattle.board.specs.Valid.{valid, validFacts}
 use Rattle.board.specs.declared.facts.Facts.{Facts}
 use Rattle.board.specs.declared.record.Board.{Board}
-use Rattle.tags.specs.Answer.{answerBytes}
+use Rattle.answers.proofs.Laws.Answers.{answer-short}
+use Rattle.answers.specs.Answer.{answerBytes}
+use Rattle.answers.specs.declared.answer.Answer.{Answer}
 use Rattle.tags.specs.Outside.{outsideAnswer, outsideAfter}
-use Rattle.tags.specs.declared.answer.Answer.{Answer}
 use Rattle.tags.specs.declared.table.Kind.{Kind}
 use Rattle.display.specs.Decision.{groupAnswer}
 use Rattle.display.specs.declared.decision.Decision.{Decision}
-use Rattle.responder.specs.Answers.{Said, silent, says, first, second, saidBy, afterBy, answers, after}
-use Rattle.responder.specs.Requests.{Request, passed, short, asks}
+use Rattle.requests.specs.Requests.{first, second, Request, passed, short, asks}
+use Rattle.responder.specs.Answers.{Said, silent, says, saidBy, afterBy, answers, after}
 
-answer-short : (f : Facts) (line : List ℕ) (a : Answer) → length (f .mac) ≡ 6 → f .characters ≤ 256 → length (answerBytes f line a) < 2 ^ 31
-unfolding answerBytes
-answer-short f line Answer.Nothing mac l = omega arith
-answer-short f line (Answer.Word n) mac l = omega arith
-answer-short f line (Answer.Pair a b) mac l = omega arith
-answer-short f line (Answer.Long n) mac l = omega arith
-answer-short f line Answer.Mac mac l = omega arith
-answer-short f line Answer.Line mac l = simp length-take (omega arith)
+answer-fits : (f : Facts) (line : List ℕ) (a : Answer) → length (f .mac) ≡ 6 → f .characters ≤ 256 → length (answerBytes f line a) < 2 ^ 31
+answer-fits f line a mac l = let s = answer-short f line a mac (omega arith) in omega arith
 
 abbrev pub ShortSaid : Said → Type 0
 ShortSaid silent = Unit {0}
@@ -40,13 +35,13 @@ said-short g b short mac l = tt
 said-short g b (asks (Kind.Frame t) bytes) mac l = go (g .answered)
   where
     go : (c : Bool) → ShortSaid (cond c (says (answerBytes (b .facts) (b .line) (groupAnswer g t))) silent)
-    go true = answer-short (b .facts) (b .line) (groupAnswer g t) mac l
+    go true = answer-fits (b .facts) (b .line) (groupAnswer g t) mac l
     go false = tt
-said-short g b (asks (Kind.Fact t) bytes) mac l = answer-short (b .facts) (b .line) (outsideAnswer (Kind.Fact t) (first bytes) (second bytes) b) mac l
-said-short g b (asks (Kind.Power t) bytes) mac l = answer-short (b .facts) (b .line) (outsideAnswer (Kind.Power t) (first bytes) (second bytes) b) mac l
-said-short g b (asks (Kind.Clock t) bytes) mac l = answer-short (b .facts) (b .line) (outsideAnswer (Kind.Clock t) (first bytes) (second bytes) b) mac l
-said-short g b (asks (Kind.Voltage t) bytes) mac l = answer-short (b .facts) (b .line) (outsideAnswer (Kind.Voltage t) (first bytes) (second bytes) b) mac l
-said-short g b (asks (Kind.Temperature t) bytes) mac l = answer-short (b .facts) (b .line) (outsideAnswer (Kind.Temperature t) (first bytes) (second bytes) b) mac l
+said-short g b (asks (Kind.Fact t) bytes) mac l = answer-fits (b .facts) (b .line) (outsideAnswer (Kind.Fact t) (first bytes) (second bytes) b) mac l
+said-short g b (asks (Kind.Power t) bytes) mac l = answer-fits (b .facts) (b .line) (outsideAnswer (Kind.Power t) (first bytes) (second bytes) b) mac l
+said-short g b (asks (Kind.Clock t) bytes) mac l = answer-fits (b .facts) (b .line) (outsideAnswer (Kind.Clock t) (first bytes) (second bytes) b) mac l
+said-short g b (asks (Kind.Voltage t) bytes) mac l = answer-fits (b .facts) (b .line) (outsideAnswer (Kind.Voltage t) (first bytes) (second bytes) b) mac l
+said-short g b (asks (Kind.Temperature t) bytes) mac l = answer-fits (b .facts) (b .line) (outsideAnswer (Kind.Temperature t) (first bytes) (second bytes) b) mac l
 
 -- the facts never change
 pub after-facts : (b : Board) (r : Request) → afterBy b r .facts ≡ b .facts

@@ -22,15 +22,15 @@ use Rattle.board.specs.declared.items.Clock.{Clock}
 use Rattle.board.specs.declared.items.Device.{Device}
 use Rattle.board.specs.declared.items.Voltage.{Voltage}
 use Rattle.board.specs.declared.record.Board.{Board}
-use Rattle.tags.specs.Answer.{answerBytes}
+use Rattle.answers.specs.Answer.{answerBytes}
+use Rattle.answers.specs.Reply.{answered, AnswerFits}
+use Rattle.answers.specs.declared.answer.Answer.{Answer}
 use Rattle.tags.specs.Clock.{clockAfter, clockValue}
 use Rattle.tags.specs.Fact.{factAnswer}
 use Rattle.tags.specs.Outside.{withDevices, withClocks, withVoltages}
 use Rattle.tags.specs.Power.{powerAfter, powerValue}
-use Rattle.tags.specs.Reply.{answered, AnswerFits}
 use Rattle.tags.specs.Temperature.{temperatureValue}
 use Rattle.tags.specs.Voltage.{voltageAfter, voltageValue}
-use Rattle.tags.specs.declared.answer.Answer.{Answer}
 use Rattle.tags.specs.declared.table.ClockTag.{ClockTag}
 use Rattle.tags.specs.declared.table.FactTag.{FactTag}
 use Rattle.tags.specs.declared.table.FrameTag.{FrameTag}
@@ -41,16 +41,17 @@ use Rattle.display.specs.Decision.{groupAnswer}
 use Rattle.display.specs.Operation.{unasked, noted}
 use Rattle.display.specs.declared.decision.Decision.{Decision}
 use Rattle.display.specs.declared.operation.Operation.{Operation}
+use Rattle.requests.proofs.Laws.Trails.{trail-stop, trail-tag, request-same, cut-on, in-message}
+use Rattle.requests.specs.Ask.{askOf, Named, InMessage}
+use Rattle.requests.specs.Requests.{Request, short, requestOf, Trail, ends, goesOn, cutBy, trail}
+use Rattle.requests.specs.declared.ask.Ask.{Ask}
 use Rattle.responder.proofs.Laws.Said.{said-is, after-is, note-is, after-line, short-asks}
-use Rattle.responder.proofs.Laws.Trails.{trail-stop, trail-tag, request-same, cut-on, in-message}
 use Rattle.responder.proofs.Laws.Written.{written-length, written-behind}
 use Rattle.responder.specs.Answers.{silent, says, noteBy, operation, saidBy, afterBy, after}
-use Rattle.responder.specs.Ask.{askOf, Named, InMessage, saidOf, afterOf, noteOf}
+use Rattle.responder.specs.Asked.{saidOf, afterOf, noteOf}
 use Rattle.responder.specs.Reply.{written}
 use Rattle.responder.specs.Progress.{Ahead, Through}
-use Rattle.responder.specs.Requests.{Request, short, requestOf, Trail, ends, goesOn, cutBy, trail}
 use Rattle.responder.specs.Serve.{bytesOf}
-use Rattle.responder.specs.declared.ask.Ask.{Ask}
 
 -- ---- one walk
 pub again-start : (g : Decision) (m₀ : List ℕ) (size : ℕ) (b₀ : Board) {o : Operation} → g .answered ≡ true → Walking m₀ size header → length (b₀ .line) ≤ 256 → Ahead g m₀ size b₀ m₀ b₀ o header

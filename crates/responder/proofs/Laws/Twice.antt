@@ -18,21 +18,21 @@ use Rattle.message.specs.declared.walk.Step.{Step}
 use Rattle.message.specs.declared.walk.Tag.{Tag}
 use Rattle.board.specs.declared.facts.Facts.{Facts}
 use Rattle.board.specs.declared.record.Board.{Board}
+use Rattle.answers.specs.Reply.{answered}
 use Rattle.tags.specs.Outside.{outsideAfter}
-use Rattle.tags.specs.Reply.{answered}
 use Rattle.tags.specs.declared.table.FrameTag.{FrameTag}
 use Rattle.tags.specs.declared.table.Kind.{Kind}
 use Rattle.display.specs.declared.decision.Decision.{Decision}
+use Rattle.requests.proofs.Laws.Trails.{trail-tag, request-same}
+use Rattle.requests.specs.Ask.{askOf}
+use Rattle.requests.specs.Requests.{Request, passed, short, asks, requestBy, requestOf, Trail, ends, goesOn, cutBy, cut, trail}
 use Rattle.responder.proofs.Laws.Follows.{Follows, follows, follows-walk, follows-same}
 use Rattle.responder.proofs.Laws.Said.{after-is, after-line}
 use Rattle.responder.proofs.Laws.Saids.{ShortSaid, said-short, after-facts}
-use Rattle.responder.proofs.Laws.Trails.{trail-tag, request-same}
 use Rattle.responder.proofs.Laws.Written.{answered-word, written-length, written-behind, writes-before, cut-writes, reworded}
 use Rattle.responder.specs.Answers.{Said, silent, says, saidBy, afterBy, answers, after}
-use Rattle.responder.specs.Ask.{askOf}
 use Rattle.responder.specs.Progress.{OnlyGroup}
 use Rattle.responder.specs.Reply.{written, writeAll}
-use Rattle.responder.specs.Requests.{Request, passed, short, asks, requestBy, requestOf, Trail, ends, goesOn, cutBy, cut, trail}
 use Rattle.responder.specs.Serve.{bytesOf}
 
 -- ---- answers of tags that stand apart are written in either order

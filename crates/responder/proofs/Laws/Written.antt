@@ -14,12 +14,12 @@ use Rattle.message.specs.Walk.{sizePlace, wordPlace, tagAt, step}
 use Rattle.message.specs.declared.walk.Ending.{Ending}
 use Rattle.message.specs.declared.walk.Step.{Step}
 use Rattle.message.specs.declared.walk.Tag.{Tag}
-use Rattle.tags.specs.Reply.{answered}
 use Rattle.board.specs.declared.record.Board.{Board}
+use Rattle.answers.specs.Reply.{answered}
 use Rattle.display.specs.declared.decision.Decision.{Decision}
+use Rattle.requests.specs.Requests.{Request, passed, short, asks, requestOf, cutBy, cut}
 use Rattle.responder.specs.Answers.{Said, silent, says, saidBy, afterBy, answers}
 use Rattle.responder.specs.Reply.{written, writeAll}
-use Rattle.responder.specs.Requests.{Request, passed, short, asks, requestOf, cutBy, cut}
 use Rattle.responder.proofs.Laws.Follows.{Follows, follows-same, found-named}
 
 -- ---- one answer

@@ -6,7 +6,7 @@ use lib.ListN.{length}
 use lib.Seq.{length-take-le}
 use Rattle.board.specs.declared.facts.Facts.{Facts}
 use Rattle.board.specs.declared.record.Board.{Board}
-use Rattle.tags.specs.Answer.{answerBytes}
+use Rattle.answers.specs.Answer.{answerBytes}
 use Rattle.tags.specs.Fact.{factAnswer}
 use Rattle.tags.specs.Outside.{outsideAnswer}
 use Rattle.tags.specs.Table.{Entry, outsideTags}

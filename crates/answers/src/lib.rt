@@ -1,0 +1,4 @@
+// Answers of tags: what they are, their first bytes stored into a value, and the whole written into
+// its message.
+pub mod answer;
+pub mod reply;

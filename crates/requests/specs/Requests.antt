@@ -1,0 +1,74 @@
+-- What the tags of a message ask for. No size of a value buffer gets past this point.
+use mathlib.Core.Bool.{Bool, true, false, cond}
+use mathlib.Core.List.{List, [], _∷_}
+use Prim.Native.Nat.{ℕ, _+_}
+use lib.Dec.{leb, ltb}
+use lib.ListN.{take, drop}
+use Rattle.words.specs.Numbers.{word}
+use Rattle.message.specs.Outcomes.{shortRequest}
+use Rattle.message.specs.Sizes.{tagHeader}
+use Rattle.message.specs.Walk.{walkFrom}
+use Rattle.message.specs.declared.walk.Ending.{Ending}
+use Rattle.message.specs.declared.walk.Tag.{Tag}
+use Rattle.tags.specs.Table.{rowOf}
+use Rattle.tags.specs.declared.table.Kind.{Kind}
+use Rattle.tags.specs.declared.table.Row.{Row}
+
+-- a tag is passed over, has a value too short for its request, or asks something with its request bytes
+pub data Request : Type 0 where
+  passed short : Request
+  asks : Kind → (bytes : List ℕ) → Request
+
+-- a tag's value
+abbrev pub valueOf : List ℕ → Tag → List ℕ
+valueOf m t = take (t .size) (drop (t .at + tagHeader) m)
+
+-- bit 31 of a tag word is set; bits 0 to 30 of a request are ignored
+abbrev pub isResponse : ℕ → Bool
+isResponse word = leb 0x8000_0000 word
+
+-- a tag's request bytes are the first of its value, to its request length
+abbrev pub requestBytes : (length : ℕ) → List ℕ → List ℕ
+requestBytes length value = take length value
+
+-- the first and the second word of a request, 0 where it has none
+abbrev pub first : List ℕ → ℕ
+first bytes = word bytes 0
+
+abbrev pub second : List ℕ → ℕ
+second bytes = word bytes 4
+
+-- a tag word with bit 31 set, or an unknown id: passed over
+unfoldable pub requestBy : (response : Bool) → Row → (size : ℕ) → List ℕ → Request
+requestBy true row size value = passed
+requestBy false Row.Unknown size value = passed
+requestBy false (Row.Known kind length) size value = cond (ltb size length) short (asks kind (requestBytes length value))
+
+unfoldable pub requestOf : List ℕ → Tag → Request
+requestOf m t = requestBy (isResponse (t .word)) (rowOf (t .id)) (t .size) (valueOf m t)
+
+-- the tags of a message up to its end or its first fault, what they ask for, and how the walk ends
+pub record Trail : Type 0 where
+  pub tags : List Tag
+  pub requests : List Request
+  pub ending : Ending
+
+abbrev pub ends : Ending → Trail
+ends e = record { tags = []; requests = []; ending = e }
+
+abbrev pub goesOn : Tag → Request → Trail → Trail
+goesOn t r rest = record { tags = t ∷ rest .tags; requests = r ∷ rest .requests; ending = rest .ending }
+
+-- a known request tag with a value below its request length ends the walk: fault 6 at its place
+abbrev pub cutBy : Request → Tag → Trail → Trail
+cutBy short t rest = ends (record { outcome = shortRequest; place = t .at })
+cutBy passed t rest = goesOn t passed rest
+cutBy (asks k bytes) t rest = goesOn t (asks k bytes) rest
+
+abbrev pub cut : List ℕ → List Tag → Ending → Trail
+cut m [] e = ends e
+cut m (t ∷ ts) e = cutBy (requestOf m t) t (cut m ts e)
+
+-- the trail of a message of `size` bytes, from p on
+unfoldable pub trail : List ℕ → (size p : ℕ) → Trail
+trail m size p = cut m (walkFrom m size p .tags) (walkFrom m size p .ending)

@@ -1,0 +1,3 @@
+// What the tags of a message ask of the board.
+pub mod ask;
+pub mod group;
