@@ -6,6 +6,7 @@ use Rattle.message.specs.Walk.{tagAt, overruns, step, walkFrom}
 use Rattle.board.specs.Bench.{bench}
 use Rattle.board.specs.Display.{pitch, need, sides, depths, offsets, possible, supported}
 use Rattle.board.specs.Valid.{validFacts, validState, validDevice, validClock, validVoltage, validBuffer, validDisplay, valid}
+use Rattle.table.specs.Table.{outsideTags, groupTags, table, rowOf}
 use Rattle.answers.specs.Answer.{answerBytes}
 use Rattle.answers.specs.Reply.{answered}
 use Rattle.tags.specs.Clock.{settled, clockAfter, clockValue}
@@ -13,7 +14,6 @@ use Rattle.tags.specs.Fact.{factAnswer}
 use Rattle.tags.specs.Outside.{outsideAnswer, outsideAfter}
 use Rattle.tags.specs.Place.{placeOf}
 use Rattle.tags.specs.State.{present}
-use Rattle.tags.specs.Table.{outsideTags, groupTags, table, rowOf}
 use Rattle.tags.specs.Voltage.{maxOffset, minOffset}
 use Rattle.display.specs.Decision.{oneBit, placedAt, allocatable, fitsBuffer, accepted, decided, groupAnswer}
 use Rattle.display.specs.Operation.{withSetting, noted}

@@ -2,7 +2,7 @@
 use mathlib.Core.List.{List, [], _∷_}
 use mathlib.Core.Logic.{inl}
 use mathlib.Core.Path.{_≡_, refl, sym, _∙_, subst}
-use Prim.Native.Nat.{ℕ, _≤_}
+use Prim.Native.Nat.{ℕ}
 use native.Mathlib.Omega.{arith}
 use lib.Count.{onesIn}
 use lib.Dec.{lit≤}
@@ -14,16 +14,16 @@ use Rattle.message.specs.declared.walk.Tag.{Tag}
 use Rattle.board.specs.Bench.{bench}
 use Rattle.board.specs.Display.{pitch, need, sides, depths, offsets, possible, supported}
 use Rattle.board.specs.Valid.{validFacts, validState, validDevice, validClock, validVoltage, validBuffer, validDisplay, valid}
+use Rattle.table.specs.Table.{outsideTags, groupTags, table, rowOf}
+use Rattle.table.specs.declared.kinds.FactTag.{FactTag}
+use Rattle.table.specs.declared.kinds.FrameTag.{FrameTag}
+use Rattle.table.specs.declared.kinds.Kind.{Kind}
+use Rattle.table.specs.declared.kinds.Mode.{Mode}
+use Rattle.table.specs.declared.rows.Row.{Row}
+use Rattle.table.specs.declared.kinds.Setting.{Setting}
 use Rattle.answers.specs.Answer.{answerBytes}
 use Rattle.tags.specs.Fact.{factAnswer}
 use Rattle.tags.specs.Outside.{outsideAnswer, outsideAfter}
-use Rattle.tags.specs.Table.{outsideTags, groupTags, table, rowOf}
-use Rattle.tags.specs.declared.table.FactTag.{FactTag}
-use Rattle.tags.specs.declared.table.FrameTag.{FrameTag}
-use Rattle.tags.specs.declared.table.Kind.{Kind}
-use Rattle.tags.specs.declared.table.Mode.{Mode}
-use Rattle.tags.specs.declared.table.Row.{Row}
-use Rattle.tags.specs.declared.table.Setting.{Setting}
 use Rattle.display.specs.Decision.{oneBit, placedAt, allocatable, fitsBuffer, accepted, decided, groupAnswer}
 use Rattle.display.specs.Operation.{withSetting, noted}
 use Rattle.requests.specs.Requests.{valueOf, requestBytes, requestBy, requestOf, trail}

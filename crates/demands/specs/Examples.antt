@@ -4,9 +4,9 @@ use mathlib.Core.List.{List, [], _∷_, _++_}
 use Prim.Native.Nat.{ℕ}
 use lib.Dec.{T, eqb}
 use Rattle.words.specs.Numbers.{le}
+use Rattle.words.specs.All.{all}
 use Rattle.board.specs.Bench.{bench}
 use Rattle.board.specs.Display.{pitchOf}
-use Rattle.board.specs.Valid.{all}
 use Rattle.board.specs.declared.record.Board.{Board}
 use Rattle.tags.specs.Voltage.{maxOffset, minOffset}
 use Rattle.responder.specs.Reply.{reply}

@@ -8,9 +8,9 @@ use Rattle.message.specs.Reader.{found}
 use Rattle.message.specs.Sizes.{tagHeader}
 use Rattle.message.specs.declared.walk.Tag.{Tag}
 use Rattle.board.specs.declared.record.Board.{Board}
-use Rattle.tags.specs.Table.{rowOf}
-use Rattle.tags.specs.declared.table.Kind.{Kind}
-use Rattle.tags.specs.declared.table.Row.{Row}
+use Rattle.table.specs.Table.{rowOf}
+use Rattle.table.specs.declared.kinds.Kind.{Kind}
+use Rattle.table.specs.declared.rows.Row.{Row}
 use Rattle.requests.specs.Requests.{valueOf, requestBytes}
 use Rattle.responder.specs.Answers.{says}
 use Rattle.responder.specs.Reply.{reply}

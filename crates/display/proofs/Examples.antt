@@ -8,10 +8,10 @@ use Rattle.board.specs.Bench.{benchDisplay}
 use Rattle.board.specs.Display.{pitchOf, pitch, need, sides, depths, offsets, possible, supported}
 use Rattle.board.specs.declared.display.Display.{Display}
 use Rattle.board.specs.declared.facts.Span.{Span}
+use Rattle.table.specs.declared.kinds.FrameTag.{FrameTag}
+use Rattle.table.specs.declared.kinds.Mode.{Mode}
+use Rattle.table.specs.declared.kinds.Setting.{Setting}
 use Rattle.answers.specs.declared.answer.Answer.{Answer}
-use Rattle.tags.specs.declared.table.FrameTag.{FrameTag}
-use Rattle.tags.specs.declared.table.Mode.{Mode}
-use Rattle.tags.specs.declared.table.Setting.{Setting}
 use Rattle.display.specs.Decision.{span, nowhere, oneBit, placedAt, allocatable, fitsBuffer, accepted, decided, groupAnswer}
 use Rattle.display.specs.Operation.{size, withSetting, unasked, noted}
 use Rattle.display.specs.declared.decision.Decision.{Decision}

@@ -8,11 +8,11 @@ use Rattle.board.specs.Display.{pitch, need, supported}
 use Rattle.board.specs.declared.display.Display.{Display}
 use Rattle.board.specs.declared.display.Settings.{Settings}
 use Rattle.board.specs.declared.facts.Span.{Span}
+use Rattle.table.specs.declared.kinds.FrameTag.{FrameTag}
+use Rattle.table.specs.declared.kinds.Kind.{Kind}
+use Rattle.table.specs.declared.rows.Row.{Row}
+use Rattle.table.specs.declared.kinds.Setting.{Setting}
 use Rattle.answers.specs.declared.answer.Answer.{Answer}
-use Rattle.tags.specs.declared.table.FrameTag.{FrameTag}
-use Rattle.tags.specs.declared.table.Kind.{Kind}
-use Rattle.tags.specs.declared.table.Row.{Row}
-use Rattle.tags.specs.declared.table.Setting.{Setting}
 use Rattle.display.specs.declared.answer.Told.{Told}
 use Rattle.display.specs.declared.decision.Decision.{Decision}
 use Rattle.display.specs.declared.operation.Operation.{Operation}

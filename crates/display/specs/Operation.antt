@@ -4,9 +4,9 @@ use Prim.Native.Nat.{ℕ}
 use Rattle.board.specs.declared.display.Settings.{Settings}
 use Rattle.board.specs.declared.display.Offset.{Offset}
 use Rattle.board.specs.declared.display.Size.{Size}
-use Rattle.tags.specs.declared.table.FrameTag.{FrameTag}
-use Rattle.tags.specs.declared.table.Mode.{Mode}
-use Rattle.tags.specs.declared.table.Setting.{Setting}
+use Rattle.table.specs.declared.kinds.FrameTag.{FrameTag}
+use Rattle.table.specs.declared.kinds.Mode.{Mode}
+use Rattle.table.specs.declared.kinds.Setting.{Setting}
 use Rattle.display.specs.declared.operation.Operation.{Operation}
 
 abbrev pub size : (a b : ℕ) → Size

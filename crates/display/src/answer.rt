@@ -2,7 +2,7 @@
 use crate::decision::Decision;
 use answers::answer::Answer;
 ghost use mathlib.Core.Path.{_≡_};
-ghost use Rattle.tags.specs.Table.{rowOf};
+ghost use Rattle.table.specs.Table.{rowOf};
 ghost use Rattle.display.specs.Decision.{toldBy};
 
 // The answer of a tag of the group; no other tag is told anything.

@@ -2,11 +2,11 @@
 use board::display::Offset;
 use board::display::Settings;
 use board::display::Size;
-use tags::table::FrameTag;
-use tags::table::Mode;
-use tags::table::Setting;
+use table::kinds::FrameTag;
+use table::kinds::Mode;
+use table::kinds::Setting;
 ghost use mathlib.Core.Path.{_≡_};
-ghost use Rattle.tags.specs.declared.table.FrameTag.{FrameTag};
+ghost use Rattle.table.specs.declared.kinds.FrameTag.{FrameTag};
 ghost use Rattle.display.specs.Operation.{withSetting, unasked, withOther, noted};
 
 // What the group tags come to: whether there are tests, and others; the settings that they propose,

@@ -4,14 +4,14 @@ use Prim.Native.Nat.{ℕ, _+_, _%_, _≤_, _<_}
 use Rattle.message.specs.Sizes.{tagHeader, largest}
 use Rattle.message.specs.declared.walk.Tag.{Tag}
 use Rattle.board.specs.Items.{noDevice, noClock, noVoltage}
+use Rattle.table.specs.declared.kinds.ClockTag.{ClockTag}
+use Rattle.table.specs.declared.kinds.Kind.{Kind}
+use Rattle.table.specs.declared.kinds.PowerTag.{PowerTag}
+use Rattle.table.specs.declared.kinds.VoltageTag.{VoltageTag}
 use Rattle.tags.specs.Clock.{clockPlace, clockAfter, clockValue}
 use Rattle.tags.specs.Power.{devicePlace, powerAfter, powerValue}
 use Rattle.tags.specs.Voltage.{voltagePlace, voltageAfter, voltageValue}
 use Rattle.tags.specs.declared.place.Place.{Place}
-use Rattle.tags.specs.declared.table.ClockTag.{ClockTag}
-use Rattle.tags.specs.declared.table.Kind.{Kind}
-use Rattle.tags.specs.declared.table.PowerTag.{PowerTag}
-use Rattle.tags.specs.declared.table.VoltageTag.{VoltageTag}
 use Rattle.requests.specs.Requests.{Request, passed, short, asks, first, second}
 use Rattle.requests.specs.declared.ask.Ask.{Ask}
 use Rattle.requests.specs.declared.group.GroupAsk.{GroupAsk}

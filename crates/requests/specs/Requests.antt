@@ -10,9 +10,9 @@ use Rattle.message.specs.Sizes.{tagHeader}
 use Rattle.message.specs.Walk.{walkFrom}
 use Rattle.message.specs.declared.walk.Ending.{Ending}
 use Rattle.message.specs.declared.walk.Tag.{Tag}
-use Rattle.tags.specs.Table.{rowOf}
-use Rattle.tags.specs.declared.table.Kind.{Kind}
-use Rattle.tags.specs.declared.table.Row.{Row}
+use Rattle.table.specs.Table.{rowOf}
+use Rattle.table.specs.declared.kinds.Kind.{Kind}
+use Rattle.table.specs.declared.rows.Row.{Row}
 
 -- a tag is passed over, has a value too short for its request, or asks something with its request bytes
 pub data Request : Type 0 where

@@ -3,11 +3,11 @@
 use crate::ask::word_of;
 use message::opening::Message;
 use message::walk::Tag;
-use tags::table::FrameTag;
-use tags::table::Kind;
-use tags::table::Row;
-use tags::table::frame_row;
-use tags::table::is_beyond;
+use table::kinds::FrameTag;
+use table::kinds::Kind;
+use table::rows::Row;
+use table::rows::frame_row;
+use table::rows::is_beyond;
 ghost use lib.ListN.{length};
 ghost use Rattle.requests.specs.Ask.{InMessage, askOf, Leads};
 ghost use Rattle.requests.specs.Requests.{requestOf};

@@ -7,9 +7,9 @@ use Rattle.message.specs.Outcomes.{done}
 use Rattle.message.specs.declared.walk.Ending.{Ending}
 use Rattle.board.specs.declared.display.Display.{Display}
 use Rattle.board.specs.declared.record.Board.{Board}
+use Rattle.table.specs.declared.kinds.Kind.{Kind}
 use Rattle.answers.specs.Answer.{answerBytes}
 use Rattle.tags.specs.Outside.{outsideAnswer, outsideAfter}
-use Rattle.tags.specs.declared.table.Kind.{Kind}
 use Rattle.display.specs.Decision.{decided, mixed, groupAnswer}
 use Rattle.display.specs.Operation.{unasked, noted}
 use Rattle.display.specs.declared.decision.Decision.{Decision}

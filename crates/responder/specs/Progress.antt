@@ -12,7 +12,7 @@ use Rattle.message.specs.declared.walk.Ending.{Ending}
 use Rattle.board.specs.Valid.{valid}
 use Rattle.board.specs.declared.display.Display.{Display}
 use Rattle.board.specs.declared.record.Board.{Board}
-use Rattle.tags.specs.declared.table.Kind.{Kind}
+use Rattle.table.specs.declared.kinds.Kind.{Kind}
 use Rattle.display.specs.Decision.{mixed}
 use Rattle.display.specs.Operation.{unasked}
 use Rattle.display.specs.declared.decision.Decision.{Decision}

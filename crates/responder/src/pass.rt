@@ -2,7 +2,7 @@
 use message::opening::Message;
 use message::walk::Tag;
 use message::walk::padded;
-use tags::table::is_beyond;
+use table::rows::is_beyond;
 use words::numbers::u32_at;
 ghost use Rattle.message.specs.Walk.{Walking};
 ghost use Rattle.responder.specs.Progress.{Passes};

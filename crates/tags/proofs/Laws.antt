@@ -1,7 +1,5 @@
-pub mod Find
 pub mod Items
 pub mod Kept
 pub mod Lengths
 pub mod Offsets
 pub mod Places
-pub mod Rows

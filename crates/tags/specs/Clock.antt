@@ -2,10 +2,10 @@
 use mathlib.Core.Bool.{cond}
 use Prim.Native.Nat.{ℕ, min, max}
 use Rattle.board.specs.declared.items.Clock.{Clock}
+use Rattle.table.specs.declared.kinds.ClockTag.{ClockTag}
 use Rattle.tags.specs.Place.{placeOf}
 use Rattle.tags.specs.State.{stateOf, present, switched}
 use Rattle.tags.specs.declared.place.Place.{Place}
-use Rattle.tags.specs.declared.table.ClockTag.{ClockTag}
 
 abbrev pub clockPlace : (id : ℕ) → Place
 clockPlace id = placeOf id 1 14

@@ -1,8 +1,8 @@
 -- Fixed facts.
 use Rattle.board.specs.declared.facts.Facts.{Facts}
 use Rattle.board.specs.declared.facts.Span.{Span}
+use Rattle.table.specs.declared.kinds.FactTag.{FactTag}
 use Rattle.answers.specs.declared.answer.Answer.{Answer}
-use Rattle.tags.specs.declared.table.FactTag.{FactTag}
 
 abbrev pub spanAnswer : Span → Answer
 spanAnswer s = Answer.Pair (s .base) (s .size)

@@ -1,4 +1,3 @@
-pub mod Table
 pub mod Fact
 pub mod Place
 pub mod State

@@ -6,6 +6,7 @@ use Rattle.board.specs.declared.items.Clock.{Clock}
 use Rattle.board.specs.declared.items.Device.{Device}
 use Rattle.board.specs.declared.items.Voltage.{Voltage}
 use Rattle.board.specs.declared.record.Board.{Board}
+use Rattle.table.specs.declared.kinds.Kind.{Kind}
 use Rattle.answers.specs.declared.answer.Answer.{Answer}
 use Rattle.tags.specs.Clock.{clockPlace, clockAfter, clockValue}
 use Rattle.tags.specs.Fact.{factAnswer}
@@ -13,7 +14,6 @@ use Rattle.tags.specs.Place.{item, change}
 use Rattle.tags.specs.Power.{devicePlace, powerAfter, powerValue}
 use Rattle.tags.specs.Temperature.{temperatureValue}
 use Rattle.tags.specs.Voltage.{voltagePlace, voltageAfter, voltageValue}
-use Rattle.tags.specs.declared.table.Kind.{Kind}
 
 -- each answers the id and one value of the item that it left
 unfoldable pub outsideAnswer : Kind → (a x : ℕ) → Board → Answer

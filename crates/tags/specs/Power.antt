@@ -1,10 +1,10 @@
 -- Power devices, ids 0 to 10.
 use Prim.Native.Nat.{ℕ}
 use Rattle.board.specs.declared.items.Device.{Device}
+use Rattle.table.specs.declared.kinds.PowerTag.{PowerTag}
 use Rattle.tags.specs.Place.{placeOf}
 use Rattle.tags.specs.State.{stateOf, present, switched}
 use Rattle.tags.specs.declared.place.Place.{Place}
-use Rattle.tags.specs.declared.table.PowerTag.{PowerTag}
 
 abbrev pub devicePlace : (id : ℕ) → Place
 devicePlace id = placeOf id 0 11

@@ -3,7 +3,7 @@ use mathlib.Core.Bool.{cond}
 use Prim.Native.Nat.{ℕ}
 use lib.Dec.{eqb}
 use Rattle.board.specs.declared.items.Temperature.{Temperature}
-use Rattle.tags.specs.declared.table.TemperatureTag.{TemperatureTag}
+use Rattle.table.specs.declared.kinds.TemperatureTag.{TemperatureTag}
 
 abbrev pub temperatureOf : TemperatureTag → Temperature → ℕ
 temperatureOf TemperatureTag.Current t = t .current

@@ -3,10 +3,10 @@ use mathlib.Core.Bool.{cond}
 use Prim.Native.Nat.{ℕ, _+_, _-_, _/_, _%_, _^_}
 use lib.Dec.{ltb}
 use Rattle.board.specs.declared.items.Voltage.{Voltage}
+use Rattle.table.specs.declared.kinds.VoltageTag.{VoltageTag}
 use Rattle.tags.specs.Clock.{clamp}
 use Rattle.tags.specs.Place.{placeOf}
 use Rattle.tags.specs.declared.place.Place.{Place}
-use Rattle.tags.specs.declared.table.VoltageTag.{VoltageTag}
 
 abbrev pub voltagePlace : (id : ℕ) → Place
 voltagePlace id = placeOf id 1 4

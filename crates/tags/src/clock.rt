@@ -2,9 +2,9 @@
 use crate::state::if_present;
 use crate::state::set_state;
 use crate::state::state_of;
-use crate::table::ClockTag;
 use board::items::Clock;
 use board::items::State;
+use table::kinds::ClockTag;
 ghost use mathlib.Core.Path.{_≡_};
 ghost use Prim.Native.Nat.{min, max};
 ghost use Rattle.board.specs.Items.{noClock};

@@ -1,7 +1,7 @@
 // Fixed facts.
-use crate::table::FactTag;
 use answers::answer::Answer;
 use board::facts::Facts;
+use table::kinds::FactTag;
 ghost use mathlib.Core.Path.{_≡_};
 ghost use Rattle.tags.specs.Fact.{factAnswer};
 

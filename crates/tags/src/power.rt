@@ -2,9 +2,9 @@
 use crate::state::if_present;
 use crate::state::set_state;
 use crate::state::state_of;
-use crate::table::PowerTag;
 use board::items::Device;
 use board::items::State;
+use table::kinds::PowerTag;
 ghost use mathlib.Core.Path.{_≡_};
 ghost use Rattle.board.specs.Items.{noDevice};
 ghost use Rattle.tags.specs.Power.{powerAfter, powerValue};

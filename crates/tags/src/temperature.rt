@@ -1,6 +1,6 @@
 // The temperature.
-use crate::table::TemperatureTag;
 use board::items::Temperature;
+use table::kinds::TemperatureTag;
 ghost use mathlib.Core.Path.{_≡_};
 ghost use Rattle.tags.specs.Temperature.{temperatureValue};
 

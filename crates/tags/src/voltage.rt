@@ -1,7 +1,7 @@
 // Voltages.
 use crate::clock::clamped;
-use crate::table::VoltageTag;
 use board::items::Voltage;
+use table::kinds::VoltageTag;
 ghost use mathlib.Core.Path.{_≡_};
 ghost use Rattle.board.specs.Items.{noVoltage};
 ghost use Rattle.tags.specs.Voltage.{maxOffset, minOffset, voltageAfter, voltageValue};

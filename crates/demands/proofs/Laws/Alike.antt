@@ -12,9 +12,9 @@ use Rattle.message.specs.Outcomes.{done}
 use Rattle.message.specs.Reader.{keptTag, withId}
 use Rattle.message.specs.declared.walk.Ending.{Ending}
 use Rattle.message.specs.declared.walk.Tag.{Tag}
-use Rattle.tags.specs.Table.{rowOf}
-use Rattle.tags.specs.declared.table.Kind.{Kind}
-use Rattle.tags.specs.declared.table.Row.{Row}
+use Rattle.table.specs.Table.{rowOf}
+use Rattle.table.specs.declared.kinds.Kind.{Kind}
+use Rattle.table.specs.declared.rows.Row.{Row}
 use Rattle.requests.specs.Requests.{Request, passed, short, asks, valueOf, isResponse, requestBytes, requestBy, requestOf, Trail, cutBy, cut}
 use Rattle.responder.specs.Answers.{Said, silent, says}
 use Rattle.demands.specs.Longer.{SameRequest, Alike}

@@ -2,7 +2,7 @@
 use mathlib.Core.Path.{_≡_, refl}
 use Prim.Native.Nat.{ℕ}
 use Rattle.board.specs.declared.display.Settings.{Settings}
-use Rattle.tags.specs.declared.table.Setting.{Setting}
+use Rattle.table.specs.declared.kinds.Setting.{Setting}
 use Rattle.display.specs.Operation.{withSetting}
 
 -- of two requests for a setting the later counts

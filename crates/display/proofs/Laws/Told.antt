@@ -6,11 +6,11 @@ use mathlib.Core.Path.{_≡_, refl, sym, ap, _∙_}
 use Prim.Native.Nat.{ℕ}
 use native.Mathlib.Omega.{arith}
 use lib.Dec.{eqb}
-use Rattle.board.specs.Valid.{all}
-use Rattle.tags.proofs.Laws.Find.{Absent, unknown}
-use Rattle.tags.specs.Table.{Entry, find, table, outsideTags, groupTags, rowOf}
-use Rattle.tags.specs.declared.table.Kind.{Kind}
-use Rattle.tags.specs.declared.table.Row.{Row}
+use Rattle.words.specs.All.{all}
+use Rattle.table.proofs.Laws.Find.{Absent, unknown}
+use Rattle.table.specs.Table.{Entry, find, table, outsideTags, groupTags, rowOf}
+use Rattle.table.specs.declared.kinds.Kind.{Kind}
+use Rattle.table.specs.declared.rows.Row.{Row}
 use Rattle.display.specs.Decision.{toldBy}
 use Rattle.display.specs.declared.answer.Told.{Told}
 use Rattle.display.specs.declared.decision.Decision.{Decision}

@@ -2,7 +2,7 @@
 use mathlib.Core.Bool.{Bool, true, false}
 use mathlib.Core.List.{List}
 use mathlib.Core.Path.{_≡_, refl, sym, ap, _∙_}
-use Prim.Native.Nat.{ℕ, _+_, _-_, _%_, _≤_, _<_}
+use Prim.Native.Nat.{ℕ, _+_, _%_, _≤_, _<_}
 use native.Mathlib.Omega.{arith}
 use borrow.Author.Tests.{le-leb, lt-leb, lt-ltb, le-ltb}
 use lib.ListN.{length, take, drop, length-take, drop-of-length-le}
@@ -11,14 +11,14 @@ use Rattle.words.proofs.Laws.Agree.{number-part}
 use Rattle.words.specs.Numbers.{numberAt, word}
 use Rattle.message.specs.Sizes.{tagHeader}
 use Rattle.message.specs.declared.walk.Tag.{Tag}
-use Rattle.tags.proofs.Laws.Find.{beyond-unknown}
-use Rattle.tags.proofs.Laws.Rows.{row-words}
+use Rattle.table.proofs.Laws.Find.{beyond-unknown}
+use Rattle.table.proofs.Laws.Rows.{row-words}
+use Rattle.table.specs.Table.{rowOf, tableEnd}
+use Rattle.table.specs.declared.kinds.FrameTag.{FrameTag}
+use Rattle.table.specs.declared.kinds.Kind.{Kind}
+use Rattle.table.specs.declared.rows.Row.{Row}
 use Rattle.tags.specs.Place.{placeOf, Placed}
-use Rattle.tags.specs.Table.{rowOf, tableEnd}
 use Rattle.tags.specs.declared.place.Place.{Place}
-use Rattle.tags.specs.declared.table.FrameTag.{FrameTag}
-use Rattle.tags.specs.declared.table.Kind.{Kind}
-use Rattle.tags.specs.declared.table.Row.{Row}
 use Rattle.requests.specs.Ask.{kindAsk, askOf, Within, Named, InMessage, RequestFits, Leads}
 use Rattle.requests.specs.Requests.{isResponse, requestBy, requestOf, valueOf}
 use Rattle.requests.specs.declared.ask.Ask.{Ask}

@@ -18,13 +18,13 @@ use Rattle.message.specs.declared.walk.Ending.{Ending}
 use Rattle.message.specs.declared.walk.Step.{Step}
 use Rattle.message.specs.declared.walk.Tag.{Tag}
 use Rattle.board.specs.declared.record.Board.{Board}
+use Rattle.table.specs.Table.{rowOf}
+use Rattle.table.specs.declared.kinds.FrameTag.{FrameTag}
+use Rattle.table.specs.declared.kinds.Kind.{Kind}
+use Rattle.table.specs.declared.rows.Row.{Row}
 use Rattle.answers.specs.Answer.{answerBytes}
 use Rattle.answers.specs.Reply.{answered, AnswerFits}
 use Rattle.answers.specs.declared.answer.Answer.{Answer}
-use Rattle.tags.specs.Table.{rowOf}
-use Rattle.tags.specs.declared.table.FrameTag.{FrameTag}
-use Rattle.tags.specs.declared.table.Kind.{Kind}
-use Rattle.tags.specs.declared.table.Row.{Row}
 use Rattle.display.specs.Decision.{groupAnswer, toldBy}
 use Rattle.display.specs.Operation.{unasked}
 use Rattle.display.specs.declared.answer.Told.{Told}

@@ -9,9 +9,9 @@ use lib.Dec.{eqb}
 use Rattle.message.specs.Outcomes.{done}
 use Rattle.board.specs.declared.display.Display.{Display}
 use Rattle.board.specs.declared.record.Board.{Board}
-use Rattle.tags.specs.declared.table.FrameTag.{FrameTag}
-use Rattle.tags.specs.declared.table.Kind.{Kind}
-use Rattle.tags.specs.declared.table.Mode.{Mode}
+use Rattle.table.specs.declared.kinds.FrameTag.{FrameTag}
+use Rattle.table.specs.declared.kinds.Kind.{Kind}
+use Rattle.table.specs.declared.kinds.Mode.{Mode}
 use Rattle.display.proofs.Laws.Kept.{unasked-same}
 use Rattle.display.specs.Decision.{mixed, decided}
 use Rattle.display.specs.Operation.{unasked, noted}

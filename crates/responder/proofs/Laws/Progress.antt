@@ -18,8 +18,8 @@ use Rattle.message.specs.declared.walk.Ending.{Ending}
 use Rattle.message.specs.declared.walk.Step.{Step}
 use Rattle.message.specs.declared.walk.Tag.{Tag}
 use Rattle.board.specs.declared.record.Board.{Board}
-use Rattle.tags.specs.Table.{tableEnd}
-use Rattle.tags.specs.declared.table.FrameTag.{FrameTag}
+use Rattle.table.specs.Table.{tableEnd}
+use Rattle.table.specs.declared.kinds.FrameTag.{FrameTag}
 use Rattle.display.specs.Decision.{mixed}
 use Rattle.display.specs.Operation.{unasked, noted}
 use Rattle.display.specs.declared.operation.Operation.{Operation}

@@ -3,6 +3,7 @@ use mathlib.Core.Path.{_≡_, refl}
 use Prim.Native.Nat.{ℕ}
 use Rattle.board.specs.Items.{noDevice, noClock, noVoltage}
 use Rattle.board.specs.declared.record.Board.{Board}
+use Rattle.table.specs.declared.kinds.Kind.{Kind}
 use Rattle.answers.specs.Answer.{answerBytes}
 use Rattle.tags.specs.Clock.{clockPlace, clockAfter, clockValue}
 use Rattle.tags.specs.Outside.{outsideAnswer, outsideAfter, withDevices, withClocks, withVoltages}
@@ -10,7 +11,6 @@ use Rattle.tags.specs.Place.{item, change}
 use Rattle.tags.specs.Power.{devicePlace, powerAfter, powerValue}
 use Rattle.tags.specs.Voltage.{voltagePlace, voltageAfter, voltageValue}
 use Rattle.tags.specs.declared.place.Place.{Place}
-use Rattle.tags.specs.declared.table.Kind.{Kind}
 use Rattle.display.specs.declared.decision.Decision.{Decision}
 use Rattle.display.specs.declared.operation.Operation.{Operation}
 use Rattle.requests.specs.Requests.{first, second, Request, passed, short, asks}

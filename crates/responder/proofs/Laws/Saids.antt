@@ -11,11 +11,11 @@ use Rattle.board.proofs.Laws.Valid.{valid-parts}
 use Rattle.board.specs.Valid.{valid, validFacts}
 use Rattle.board.specs.declared.facts.Facts.{Facts}
 use Rattle.board.specs.declared.record.Board.{Board}
+use Rattle.table.specs.declared.kinds.Kind.{Kind}
 use Rattle.answers.proofs.Laws.Answers.{answer-short}
 use Rattle.answers.specs.Answer.{answerBytes}
 use Rattle.answers.specs.declared.answer.Answer.{Answer}
 use Rattle.tags.specs.Outside.{outsideAnswer, outsideAfter}
-use Rattle.tags.specs.declared.table.Kind.{Kind}
 use Rattle.display.specs.Decision.{groupAnswer}
 use Rattle.display.specs.declared.decision.Decision.{Decision}
 use Rattle.requests.specs.Requests.{first, second, Request, passed, short, asks}

@@ -2,7 +2,7 @@
 use mathlib.Core.Bool.{Bool, true, false, cond}
 use mathlib.Core.List.{List, [], _∷_, _++_}
 use mathlib.Core.Path.{_≡_, refl, sym, ap, _∙_, subst}
-use Prim.Native.Nat.{ℕ, _+_, _-_, _≤_, _<_}
+use Prim.Native.Nat.{ℕ, _-_, _≤_, _<_}
 use native.Mathlib.Omega.{arith}
 use denote.Enum.Declared.{tagOf}
 use types.Run.{OneOf}
@@ -22,6 +22,12 @@ use Rattle.board.specs.declared.items.Clock.{Clock}
 use Rattle.board.specs.declared.items.Device.{Device}
 use Rattle.board.specs.declared.items.Voltage.{Voltage}
 use Rattle.board.specs.declared.record.Board.{Board}
+use Rattle.table.specs.declared.kinds.ClockTag.{ClockTag}
+use Rattle.table.specs.declared.kinds.FactTag.{FactTag}
+use Rattle.table.specs.declared.kinds.FrameTag.{FrameTag}
+use Rattle.table.specs.declared.kinds.PowerTag.{PowerTag}
+use Rattle.table.specs.declared.kinds.TemperatureTag.{TemperatureTag}
+use Rattle.table.specs.declared.kinds.VoltageTag.{VoltageTag}
 use Rattle.answers.specs.Answer.{answerBytes}
 use Rattle.answers.specs.Reply.{answered, AnswerFits}
 use Rattle.answers.specs.declared.answer.Answer.{Answer}
@@ -31,12 +37,6 @@ use Rattle.tags.specs.Outside.{withDevices, withClocks, withVoltages}
 use Rattle.tags.specs.Power.{powerAfter, powerValue}
 use Rattle.tags.specs.Temperature.{temperatureValue}
 use Rattle.tags.specs.Voltage.{voltageAfter, voltageValue}
-use Rattle.tags.specs.declared.table.ClockTag.{ClockTag}
-use Rattle.tags.specs.declared.table.FactTag.{FactTag}
-use Rattle.tags.specs.declared.table.FrameTag.{FrameTag}
-use Rattle.tags.specs.declared.table.PowerTag.{PowerTag}
-use Rattle.tags.specs.declared.table.TemperatureTag.{TemperatureTag}
-use Rattle.tags.specs.declared.table.VoltageTag.{VoltageTag}
 use Rattle.display.specs.Decision.{groupAnswer}
 use Rattle.display.specs.Operation.{unasked, noted}
 use Rattle.display.specs.declared.decision.Decision.{Decision}

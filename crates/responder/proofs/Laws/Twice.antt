@@ -18,10 +18,10 @@ use Rattle.message.specs.declared.walk.Step.{Step}
 use Rattle.message.specs.declared.walk.Tag.{Tag}
 use Rattle.board.specs.declared.facts.Facts.{Facts}
 use Rattle.board.specs.declared.record.Board.{Board}
+use Rattle.table.specs.declared.kinds.FrameTag.{FrameTag}
+use Rattle.table.specs.declared.kinds.Kind.{Kind}
 use Rattle.answers.specs.Reply.{answered}
 use Rattle.tags.specs.Outside.{outsideAfter}
-use Rattle.tags.specs.declared.table.FrameTag.{FrameTag}
-use Rattle.tags.specs.declared.table.Kind.{Kind}
 use Rattle.display.specs.declared.decision.Decision.{Decision}
 use Rattle.requests.proofs.Laws.Trails.{trail-tag, request-same}
 use Rattle.requests.specs.Ask.{askOf}

@@ -10,13 +10,13 @@ use Rattle.board.specs.declared.items.Clock.{Clock}
 use Rattle.board.specs.declared.items.Device.{Device}
 use Rattle.board.specs.declared.items.State.{State}
 use Rattle.board.specs.declared.items.Voltage.{Voltage}
+use Rattle.table.specs.declared.kinds.ClockTag.{ClockTag}
+use Rattle.table.specs.declared.kinds.PowerTag.{PowerTag}
+use Rattle.table.specs.declared.kinds.VoltageTag.{VoltageTag}
 use Rattle.tags.specs.Clock.{clamp, settled, clockAfter, clockValue}
 use Rattle.tags.specs.Power.{powerAfter, powerValue}
 use Rattle.tags.specs.State.{present, switched}
 use Rattle.tags.specs.Voltage.{voltageAfter, voltageValue}
-use Rattle.tags.specs.declared.table.ClockTag.{ClockTag}
-use Rattle.tags.specs.declared.table.PowerTag.{PowerTag}
-use Rattle.tags.specs.declared.table.VoltageTag.{VoltageTag}
 
 -- ---- an absent or invalid item is left alone
 pub switched-absent : (x : ℕ) (s : State) → s .exists ≡ false → switched x s ≡ s

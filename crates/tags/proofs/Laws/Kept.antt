@@ -4,10 +4,13 @@ use mathlib.Core.List.{List}
 use mathlib.Core.Path.{_≡_}
 use Prim.Native.Nat.{ℕ}
 use lib.ListN.{getD}
-use Rattle.board.proofs.Laws.Valid.{all-at, all-set, valid-parts, parts-valid, no-device-valid, no-clock-valid, no-voltage-valid}
+use Rattle.words.proofs.Laws.All.{all-at, all-set}
+use Rattle.words.specs.All.{all}
+use Rattle.board.proofs.Laws.Valid.{valid-parts, parts-valid, no-device-valid, no-clock-valid, no-voltage-valid}
 use Rattle.board.specs.Items.{noDevice, noClock, noVoltage}
-use Rattle.board.specs.Valid.{all, valid, validDevice, validClock, validVoltage}
+use Rattle.board.specs.Valid.{valid, validDevice, validClock, validVoltage}
 use Rattle.board.specs.declared.record.Board.{Board}
+use Rattle.table.specs.declared.kinds.Kind.{Kind}
 use Rattle.tags.proofs.Laws.Items.{power-valid, clock-valid, voltage-valid}
 use Rattle.tags.specs.Clock.{clockPlace, clockAfter}
 use Rattle.tags.specs.Outside.{outsideAfter, withDevices, withClocks, withVoltages}
@@ -15,7 +18,6 @@ use Rattle.tags.specs.Place.{change}
 use Rattle.tags.specs.Power.{devicePlace, powerAfter}
 use Rattle.tags.specs.Voltage.{voltagePlace, voltageAfter}
 use Rattle.tags.specs.declared.place.Place.{Place}
-use Rattle.tags.specs.declared.table.Kind.{Kind}
 
 -- a change that keeps an item valid keeps all valid
 all-change : {A : Type 0} (p : A → Bool) (none : A) (f : A → A) (xs : List A) (at : Place) → p none ≡ true → ((x : A) → p x ≡ true → p (f x) ≡ true) → all p xs ≡ true

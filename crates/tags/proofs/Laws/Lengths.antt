@@ -6,12 +6,12 @@ use lib.ListN.{length}
 use lib.Seq.{length-take-le}
 use Rattle.board.specs.declared.facts.Facts.{Facts}
 use Rattle.board.specs.declared.record.Board.{Board}
+use Rattle.table.specs.Table.{Entry, outsideTags}
+use Rattle.table.specs.declared.kinds.FactTag.{FactTag}
+use Rattle.table.specs.declared.kinds.Kind.{Kind}
 use Rattle.answers.specs.Answer.{answerBytes}
 use Rattle.tags.specs.Fact.{factAnswer}
 use Rattle.tags.specs.Outside.{outsideAnswer}
-use Rattle.tags.specs.Table.{Entry, outsideTags}
-use Rattle.tags.specs.declared.table.FactTag.{FactTag}
-use Rattle.tags.specs.declared.table.Kind.{Kind}
 
 abbrev factLength : Facts → ℕ → FactTag → ℕ
 factLength f n FactTag.Line = f .characters

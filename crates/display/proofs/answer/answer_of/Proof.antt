@@ -1,7 +1,7 @@
 use mathlib.Core.Logic.{inl, inr}
 use mathlib.Core.Path.{refl, sym, ap}
 use Prim.Native.Nat.{ℕ}
-use Rattle.tags.specs.Table.{rowOf, table, outsideTags, groupTags}
+use Rattle.table.specs.Table.{rowOf, table, outsideTags, groupTags}
 use Rattle.display.proofs.Laws.Told.{by-three, told-none}
 use Rattle.display.specs.Decision.{groupAnswer, toldBy}
 use Rattle.display.proofs.answer.answer_of.Statement.{statement}

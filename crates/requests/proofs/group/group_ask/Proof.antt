@@ -1,7 +1,7 @@
 use mathlib.Core.Path.{refl, sym, _∙_}
 use native.Mathlib.Omega.{arith}
 use borrow.Author.Tests.{leb-true}
-use Rattle.tags.specs.Table.{tableEnd}
+use Rattle.table.specs.Table.{tableEnd}
 use Rattle.requests.proofs.Laws.Asks.{ask-fits, group-response, group-beyond, group-unknown, group-short, group-known}
 use borrow.Author.Needs.{needs}
 use Rattle.requests.proofs.group.group_ask.Statement.{statement}

@@ -4,7 +4,7 @@ use native.Mathlib.Omega.{arith}
 use borrow.Author.Needs.{needs}
 use borrow.Author.Tests.{leb-true, not-false}
 use Rattle.message.specs.Walk.{tagEnd}
-use Rattle.tags.specs.Table.{tableEnd}
+use Rattle.table.specs.Table.{tableEnd}
 use Rattle.responder.proofs.Laws.Progress.{passes-none, passes-one}
 use Rattle.responder.proofs.pass.pass_run.Statement.{statement}
 use Rattle.responder.proofs.pass.pass_run.Tie as tie

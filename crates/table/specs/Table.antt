@@ -3,16 +3,16 @@ use mathlib.Core.Bool.{cond}
 use mathlib.Core.List.{List, [], _∷_, _++_}
 use Prim.Native.Nat.{ℕ}
 use lib.Dec.{eqb}
-use Rattle.tags.specs.declared.table.ClockTag.{ClockTag}
-use Rattle.tags.specs.declared.table.FactTag.{FactTag}
-use Rattle.tags.specs.declared.table.FrameTag.{FrameTag}
-use Rattle.tags.specs.declared.table.Kind.{Kind}
-use Rattle.tags.specs.declared.table.Mode.{Mode}
-use Rattle.tags.specs.declared.table.PowerTag.{PowerTag}
-use Rattle.tags.specs.declared.table.Row.{Row}
-use Rattle.tags.specs.declared.table.Setting.{Setting}
-use Rattle.tags.specs.declared.table.TemperatureTag.{TemperatureTag}
-use Rattle.tags.specs.declared.table.VoltageTag.{VoltageTag}
+use Rattle.table.specs.declared.kinds.ClockTag.{ClockTag}
+use Rattle.table.specs.declared.kinds.FactTag.{FactTag}
+use Rattle.table.specs.declared.kinds.FrameTag.{FrameTag}
+use Rattle.table.specs.declared.kinds.Kind.{Kind}
+use Rattle.table.specs.declared.kinds.Mode.{Mode}
+use Rattle.table.specs.declared.kinds.PowerTag.{PowerTag}
+use Rattle.table.specs.declared.rows.Row.{Row}
+use Rattle.table.specs.declared.kinds.Setting.{Setting}
+use Rattle.table.specs.declared.kinds.TemperatureTag.{TemperatureTag}
+use Rattle.table.specs.declared.kinds.VoltageTag.{VoltageTag}
 
 -- a known tag: its id, the lengths of its request and of its answer, and what it asks
 pub record Entry : Type 0 where

@@ -1,8 +1,8 @@
 use mathlib.Core.Path.{sym, ap}
-use Rattle.tags.proofs.Laws.Find.{unknown}
-use Rattle.tags.specs.Table.{rowOf, table, outsideTags, groupTags}
-use Rattle.tags.proofs.table.row_of.Statement.{statement}
-use Rattle.tags.proofs.table.row_of.Tie as tie
+use Rattle.table.proofs.Laws.Find.{unknown}
+use Rattle.table.specs.Table.{rowOf, table, outsideTags, groupTags}
+use Rattle.table.proofs.rows.row_of.Statement.{statement}
+use Rattle.table.proofs.rows.row_of.Tie as tie
 
 returns : tie.Need-returns
 unfolding rowOf table outsideTags groupTags

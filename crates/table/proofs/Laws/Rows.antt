@@ -6,10 +6,10 @@ use Prim.Native.Nat.{ℕ, _%_, _≤_}
 use native.Mathlib.Omega.{arith}
 use borrow.Author.Tests.{eqb-true, leb-true}
 use lib.Dec.{eqb, leb}
-use Rattle.board.specs.Valid.{all}
-use Rattle.tags.specs.Table.{Entry, find, table, outsideTags, groupTags, rowOf}
-use Rattle.tags.specs.declared.table.Kind.{Kind}
-use Rattle.tags.specs.declared.table.Row.{Row}
+use Rattle.words.specs.All.{all}
+use Rattle.table.specs.Table.{Entry, find, table, outsideTags, groupTags, rowOf}
+use Rattle.table.specs.declared.kinds.Kind.{Kind}
+use Rattle.table.specs.declared.rows.Row.{Row}
 
 pub record Words (n : ℕ) : Type 0 where
   pub fours : n % 4 ≡ 0

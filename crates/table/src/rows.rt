@@ -1,80 +1,17 @@
-// The table of known tags.
+// The rows of the table, by id.
+use crate::kinds::ClockTag;
+use crate::kinds::FactTag;
+use crate::kinds::FrameTag;
+use crate::kinds::Kind;
+use crate::kinds::Mode;
+use crate::kinds::PowerTag;
+use crate::kinds::Setting;
+use crate::kinds::TemperatureTag;
+use crate::kinds::VoltageTag;
 ghost use mathlib.Core.Path.{_≡_};
 ghost use Prim.Native.Nat.{_<_, _≤_};
 ghost use lib.Dec.{leb};
-ghost use Rattle.tags.specs.Table.{rowOf, tableEnd};
-
-pub enum FactTag {
-    Firmware,
-    Model,
-    Revision,
-    Mac,
-    Serial,
-    Arm,
-    Vc,
-    Line,
-    Dma,
-}
-
-pub enum PowerTag {
-    State,
-    Timing,
-    SetState,
-}
-
-pub enum ClockTag {
-    State,
-    SetState,
-    Rate,
-    Max,
-    Min,
-    SetRate,
-}
-
-pub enum VoltageTag {
-    Get,
-    Set,
-    Max,
-    Min,
-}
-
-pub enum TemperatureTag {
-    Current,
-    Max,
-}
-
-// What a tag of the frame buffer group does with a setting.
-pub enum Mode {
-    Get,
-    Test,
-    Set,
-}
-
-pub enum Setting {
-    Physical,
-    Virtual,
-    Depth,
-    Order,
-    Alpha,
-    Offset,
-}
-
-pub enum FrameTag {
-    Of(Mode, Setting),
-    Pitch,
-    Allocate,
-    Release,
-}
-
-// What a known tag asks. The frame buffer group is `Frame`.
-pub enum Kind {
-    Fact(FactTag),
-    Power(PowerTag),
-    Clock(ClockTag),
-    Voltage(VoltageTag),
-    Temperature(TemperatureTag),
-    Frame(FrameTag),
-}
+ghost use Rattle.table.specs.Table.{rowOf, tableEnd};
 
 // The row of an id: what it asks and the length of its request.
 pub enum Row {

@@ -6,9 +6,9 @@ use Prim.Native.Nat.{ℕ, _+_, _≤_, _<_}
 use native.Mathlib.Omega.{arith}
 use borrow.Author.Tests.{ne-eqb, ltb-true, leb-true}
 use lib.Dec.{ltb, leb}
-use Rattle.board.specs.Valid.{all}
-use Rattle.tags.specs.Table.{Entry, find, table, outsideTags, groupTags, rowOf, tableEnd}
-use Rattle.tags.specs.declared.table.Row.{Row}
+use Rattle.words.specs.All.{all}
+use Rattle.table.specs.Table.{Entry, find, table, outsideTags, groupTags, rowOf, tableEnd}
+use Rattle.table.specs.declared.rows.Row.{Row}
 
 abbrev pub Absent : Type 0 → List Entry → ℕ → Type 0
 Absent N [] id = N

@@ -1,8 +1,8 @@
 use mathlib.Core.Path.{refl, sym, ap, _∙_}
-use Rattle.tags.proofs.Laws.Find.{unknown, find-apart}
-use Rattle.tags.specs.Table.{rowOf, table, outsideTags, groupTags}
-use Rattle.tags.proofs.table.frame_row.Statement.{statement}
-use Rattle.tags.proofs.table.frame_row.Tie as tie
+use Rattle.table.proofs.Laws.Find.{unknown, find-apart}
+use Rattle.table.specs.Table.{rowOf, table, outsideTags, groupTags}
+use Rattle.table.proofs.rows.frame_row.Statement.{statement}
+use Rattle.table.proofs.rows.frame_row.Tie as tie
 
 returns : tie.Need-returns
 unfolding rowOf table outsideTags groupTags

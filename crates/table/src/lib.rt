@@ -1,0 +1,3 @@
+// The table of known tags.
+pub mod kinds;
+pub mod rows;
