@@ -38,6 +38,11 @@ fn served(sent: &Sent) -> (u32, usize, Vec<u8>) {
     (outcome, place, reply)
 }
 
+/// The place of a fault, where the file has a word there.
+fn fault_in(outcome: u32, place: usize, bytes: &[u8]) -> Option<usize> {
+    (names::is_fault(outcome) && place + 4 <= bytes.len()).then_some(place)
+}
+
 fn draw(out: &mut impl Write, path: &str, sent: &Sent, colour: bool) -> io::Result<()> {
     let (outcome, place, reply) = served(sent);
     writeln!(
@@ -46,10 +51,12 @@ fn draw(out: &mut impl Write, path: &str, sent: &Sent, colour: bool) -> io::Resu
         sent.bytes.len(),
         if sent.more { " and more" } else { "" }
     )?;
+    let fault = fault_in(outcome, place, &reply);
+    let marked = if fault.is_some() { ", ! fault" } else { "" };
     writeln!(out, "\nThe request\n")?;
-    picture::draw(out, &sent.bytes, &sent.bytes, colour)?;
-    writeln!(out, "\nThe reply (* changed)\n")?;
-    picture::draw(out, &reply, &sent.bytes, colour)?;
+    picture::draw(out, &sent.bytes, &sent.bytes, None, colour)?;
+    writeln!(out, "\nThe reply (* changed{marked})\n")?;
+    picture::draw(out, &reply, &sent.bytes, fault, colour)?;
     if sent.more {
         writeln!(out, "\nThe file is longer than a message may be, {MOST} bytes.")?;
     }

@@ -59,6 +59,11 @@ pub fn code(word: u32) -> &'static str {
     }
 }
 
+/// Whether an outcome of serving is a fault, with a place in the message.
+pub fn is_fault(outcome: u32) -> bool {
+    matches!(outcome, 4..=6)
+}
+
 fn outcome(number: u32) -> &'static str {
     match number {
         0 => "done",

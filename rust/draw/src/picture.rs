@@ -36,7 +36,7 @@ fn describe(role: Role, word: u32) -> String {
         Role::Value(bytes) => value(word, bytes),
         Role::End => "end".to_string(),
         Role::Padding => "padding".to_string(),
-        Role::Fault => "tag that runs over".to_string(),
+        Role::Fault => format!("tag, {}, runs over", names::tag(word)),
         Role::Unread => "not read".to_string(),
         Role::Behind => "behind the message".to_string(),
     }
@@ -67,28 +67,43 @@ fn alike(bytes: &[u8], roles: &[Role], index: usize) -> usize {
         .count()
 }
 
+/// A line of a word that is marked by `*` or `!`, in colour, or by a space.
 fn line(
     out: &mut impl Write,
     at: usize,
     word: u32,
-    changed: bool,
+    mark: char,
     text: &str,
     colour: bool,
 ) -> io::Result<()> {
-    let (on, off) = if changed && colour { ("\x1b[1;33m", "\x1b[0m") } else { ("", "") };
-    let mark = if changed { '*' } else { ' ' };
+    let (on, off) = match mark {
+        '*' if colour => ("\x1b[1;33m", "\x1b[0m"),
+        '!' if colour => ("\x1b[1;31m", "\x1b[0m"),
+        _ => ("", ""),
+    };
     writeln!(out, "{on}{at:6}  {word:08x} {mark} {text}{off}")
 }
 
-/// Draws the bytes; words that are not as they were before are marked.
-pub fn draw(out: &mut impl Write, bytes: &[u8], before: &[u8], colour: bool) -> io::Result<()> {
+/// Draws the bytes; words that are not as they were before are marked, and the place of a fault.
+pub fn draw(
+    out: &mut impl Write,
+    bytes: &[u8],
+    before: &[u8],
+    fault: Option<usize>,
+    colour: bool,
+) -> io::Result<()> {
     let count = bytes.len() / 4;
     let roles = roles::of(bytes);
     let mut index = 0;
     while index < count {
         let at = index * 4;
         let word = word_at(bytes, at);
-        line(out, at, word, word != word_at(before, at), &describe(roles[index], word), colour)?;
+        let mark = match fault {
+            Some(place) if place == at => '!',
+            _ if word != word_at(before, at) => '*',
+            _ => ' ',
+        };
+        line(out, at, word, mark, &describe(roles[index], word), colour)?;
         let same = alike(bytes, &roles, index);
         index += 1;
         if same > ALIKE {

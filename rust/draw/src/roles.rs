@@ -13,7 +13,7 @@ pub enum Role {
     End,
     /// Behind the end word.
     Padding,
-    /// Where the walk found a fault, and behind it.
+    /// The id of a tag that runs over, and what the walk does not read.
     Fault,
     Unread,
     /// Behind the message.
@@ -54,7 +54,7 @@ pub fn of(bytes: &[u8]) -> Vec<Role> {
     let rest = match outcome {
         4 => Role::Behind,
         5 => {
-            roles.push(Role::Fault);
+            roles.extend([Role::Fault, Role::ValueSize]);
             Role::Unread
         }
         11 => {
