@@ -2,8 +2,9 @@
  *
  * Link with libvcmailbox.a, which `./vc library` builds. Every function here is proved: it gives an
  * outcome for any bytes, any numbers and any record, and reads and writes nothing but what it is lent.
- * A pointer must be valid for the length that follows it, or for the one number or record it points to,
- * and what is lent to be written must overlap nothing else that the same call is lent.
+ * A pointer must be valid for the length that follows it, and may be null where that is 0, or be valid for
+ * the one number or record it points to; what is lent to be written must overlap nothing else that the same
+ * call is lent.
  *
  * A message is a run of little-endian words: its size in bytes, a code, tags, an end word 0, padding.
  * A tag is its id, the size of its value in bytes, a tag word, and the value, padded to 4. */

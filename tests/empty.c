@@ -1,0 +1,35 @@
+/* Lengths of 0, with no bytes behind them: the pointer may be null. */
+#include <stdio.h>
+
+#include "vcmailbox.h"
+
+static uint8_t buffer[64];
+
+static void line(const char *what, uint32_t outcome)
+{
+    printf("%s: %u\n", what, (unsigned)outcome);
+}
+
+int main(void)
+{
+    size_t cursor, size, place, value, count;
+    uint32_t id, bytes, word, answer;
+    vc_board board;
+    vc_bench(&board);
+    line("start", vc_start(NULL, 0, &cursor));
+    cursor = 8;
+    line("add", vc_add(NULL, 0, &cursor, 1, 4, NULL, 0));
+    line("finish", vc_finish(NULL, 0, 8, &size));
+    line("list", vc_list(NULL, 0, 0, &place, &id, &bytes, &word, &value));
+    line("read", vc_read(NULL, 0, 1, 0, 4, &place, &answer, &value, &count));
+    line("serve", vc_serve(&board, NULL, 0, &place));
+
+    /* a tag that asks nothing */
+    line("start", vc_start(buffer, sizeof buffer, &cursor));
+    line("add", vc_add(buffer, sizeof buffer, &cursor, 1, 4, NULL, 0));
+    line("finish", vc_finish(buffer, sizeof buffer, cursor, &size));
+    line("serve", vc_serve(&board, buffer, size, &place));
+    line("read", vc_read(buffer, size, 1, 0, 4, &place, &answer, &value, &count));
+    printf("%u bytes answered, %u shown at %u\n", (unsigned)answer, (unsigned)count, (unsigned)value);
+    return 0;
+}
