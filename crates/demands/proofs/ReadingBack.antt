@@ -10,8 +10,9 @@ use Rattle.words.proofs.Laws.Agree.{drop-later}
 use Rattle.words.proofs.Laws.Put.{length-put, drop-put, number-put}
 use Rattle.words.specs.Numbers.{le, word}
 use Rattle.words.specs.Put.{put}
+use Rattle.message.proofs.Laws.Found.{response-done, response-fault, found-response, found-judged}
 use Rattle.message.proofs.Laws.Opening.{GoodSize, opened-good}
-use Rattle.message.proofs.Laws.Reader.{response-done, response-fault, found-response, found-judged, judged-not-answered}
+use Rattle.message.proofs.Laws.Reader.{judged-not-answered}
 use Rattle.message.specs.Opening.{opened}
 use Rattle.message.specs.Outcomes.{done}
 use Rattle.message.specs.Reader.{isResponse, judged, foundIn, found}

@@ -3,4 +3,8 @@ pub mod Steps
 pub mod Walks
 pub mod Lister
 pub mod Reader
+pub mod Shown
+pub mod Found
+pub mod Met
+pub mod Paired
 pub mod Builder

@@ -9,7 +9,8 @@ use lib.Dec.{eqb}
 use lib.ListN.{length, take, drop, getD, length-take}
 use lib.Seq.{take-take}
 use Rattle.words.proofs.Laws.Agree.{part-before}
-use Rattle.message.proofs.Laws.Reader.{Nth, judged-fewer, judged-done}
+use Rattle.message.proofs.Laws.Found.{Nth}
+use Rattle.message.proofs.Laws.Reader.{judged-fewer, judged-done}
 use Rattle.message.proofs.Laws.Steps.{found}
 use Rattle.message.specs.Outcomes.{done, fewerStored}
 use Rattle.message.specs.Reader.{unread, keptTag, withId, judged, answerLength, stored}
