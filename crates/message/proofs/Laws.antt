@@ -1,6 +1,7 @@
 pub mod Opening
 pub mod Steps
 pub mod Walks
+pub mod Follows
 pub mod Lister
 pub mod Reader
 pub mod Shown

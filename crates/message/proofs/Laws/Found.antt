@@ -1,19 +1,19 @@
 -- Which tag is found.
-use mathlib.Core.Bool.{Bool, true, false}
+use mathlib.Core.Bool.{true, false}
 use mathlib.Core.List.{List, [], _∷_}
 use mathlib.Core.Path.{_≡_, refl, sym, ap, _∙_}
 use Prim.Native.Nat.{ℕ, zero, suc, _≤_}
 use native.Mathlib.Omega.{arith}
-use borrow.Author.Tests.{eq-eqb, ne-eqb, eqb-false}
-use lib.Dec.{eqb}
+use borrow.Author.Tests.{eq-eqb, ne-eqb}
 use lib.ListN.{length}
 use Rattle.words.specs.Numbers.{word}
 use Rattle.message.proofs.Laws.Reader.{read-no-response, read-response, read-good}
+use Rattle.message.proofs.Laws.Steps.{tag-named}
 use Rattle.message.specs.Opening.{opened}
 use Rattle.message.specs.Outcomes.{done, notResponse, noSuchTag}
 use Rattle.message.specs.Reader.{isResponse, unread, unmet, judged, withId, occurrenceOf, foundIn, found}
 use Rattle.message.specs.Sizes.{header, codePlace}
-use Rattle.message.specs.Walk.{tagAt, overruns, stepOf, step, notMet, walk, walkFrom}
+use Rattle.message.specs.Walk.{step, notMet, walk, walkFrom}
 use Rattle.message.specs.declared.opening.Message.{Message}
 use Rattle.message.specs.declared.opening.Opened.the-variants.{Good}
 use Rattle.message.specs.declared.walk.Ending.{Ending}
@@ -89,18 +89,6 @@ module _ (m : List ℕ) {message : Message} (o : opened m ≡ Good message) wher
         found-response id n wanted ∙ nth-unmet wanted (w .ending) n (withId id (w .tags)) l
 
 -- ---- no tag has the id 0
-tag-named : (m : List ℕ) (size p : ℕ) {t : Tag} {next : ℕ} → step m size p ≡ Step.Tag t next → t .id ≡ 0 → ⊥
-unfolding step tagAt
-tag-named m size p {t} {next} e z = go (eqb p size) (eqb (word m p) 0) (overruns m size p) refl e
-  where
-    go : (a b c : Bool) → eqb (word m p) 0 ≡ b → stepOf a b c (tagAt m p) ≡ Step.Tag t next → ⊥
-    go true b c eb q = let y : _≡_ {A = ℕ} 0 1 = cc in omega arith
-    go false true c eb q = let y : _≡_ {A = ℕ} 0 1 = cc in omega arith
-    go false false true eb q = let y : _≡_ {A = ℕ} 0 1 = cc in omega arith
-    go false false false eb q =
-        let is : tagAt m p ≡ t = cc in
-        eqb-false (word m p) 0 eb (ap (λ (x : Tag). x .id) is ∙ z)
-
 walk-named : (f : ℕ) (m : List ℕ) (size p : ℕ) (s : Step) → step m size p ≡ s → withId 0 (walk f m size s .tags) ≡ []
 walk-named zero m size p s e = refl
 walk-named (suc f) m size p Step.End e = refl
