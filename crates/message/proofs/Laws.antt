@@ -9,3 +9,5 @@ pub mod Found
 pub mod Met
 pub mod Paired
 pub mod Builder
+pub mod Asked
+pub mod Held
