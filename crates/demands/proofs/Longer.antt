@@ -9,7 +9,8 @@ use borrow.Author.Tests.{ltb-true, ltb-false}
 use lib.Dec.{ltb, leb}
 use lib.ListN.{length, take, drop, getD}
 use Rattle.words.specs.Numbers.{word}
-use Rattle.message.proofs.Laws.Reader.{Paired, paired-found, unmet-end}
+use Rattle.message.proofs.Laws.Found.{unmet-end}
+use Rattle.message.proofs.Laws.Paired.{Paired, paired-found}
 use Rattle.message.specs.Builder.{Call}
 use Rattle.message.specs.Outcomes.{done, noSuchTag, notAnswered, fewerStored}
 use Rattle.message.specs.Reader.{unread, unmet, isAnswered, answerLength, stored, judged, withId, foundIn, found}

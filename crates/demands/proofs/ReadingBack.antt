@@ -10,8 +10,10 @@ use Rattle.words.proofs.Laws.Agree.{drop-later}
 use Rattle.words.proofs.Laws.Put.{length-put, drop-put, number-put}
 use Rattle.words.specs.Numbers.{le, word}
 use Rattle.words.specs.Put.{put}
+use Rattle.message.proofs.Laws.Follows.{follows, follows-walk}
+use Rattle.message.proofs.Laws.Found.{response-done, response-fault, found-response, found-judged}
 use Rattle.message.proofs.Laws.Opening.{GoodSize, opened-good}
-use Rattle.message.proofs.Laws.Reader.{response-done, response-fault, found-response, found-judged, judged-not-answered}
+use Rattle.message.proofs.Laws.Reader.{judged-not-answered}
 use Rattle.message.specs.Opening.{opened}
 use Rattle.message.specs.Outcomes.{done}
 use Rattle.message.specs.Reader.{isResponse, judged, foundIn, found}
@@ -22,11 +24,10 @@ use Rattle.board.specs.Valid.{valid}
 use Rattle.board.specs.declared.record.Board.{Board}
 use Rattle.responder.specs.Answers.{Said, silent, says, groupOf}
 use Rattle.responder.specs.Reply.{codeOf, reply}
-use Rattle.responder.proofs.Laws.Follows.{follows, follows-walk}
-use Rattle.demands.proofs.Laws.ReadBack.{nth-at, judged-shows, judged-lacks, value-written}
-use Rattle.demands.proofs.Laws.Replied.{Replied, untouched, walked, replied, clash}
 use Rattle.responder.proofs.Laws.Saids.{Short, saids-short, few-characters}
 use Rattle.responder.proofs.Laws.Written.{writes-length}
+use Rattle.demands.proofs.Laws.ReadBack.{nth-at, judged-shows, judged-lacks, value-written}
+use Rattle.demands.proofs.Laws.Replied.{Replied, untouched, walked, replied, clash}
 use Rattle.demands.proofs.Walked.{filled, code, whole, bytes-are, size-same, follows-whole}
 use Rattle.demands.specs.Changes.{trailOf, saidOf}
 use Rattle.demands.specs.ReadingBack.{tagOf, occurrence, saidAt, Reads, ReadingBack}

@@ -9,6 +9,7 @@ use Rattle.words.proofs.Laws.Agree.{number-before}
 use Rattle.words.proofs.Laws.Put.{take-put, drop-put}
 use Rattle.words.specs.Numbers.{le, word}
 use Rattle.words.specs.Put.{put}
+use Rattle.message.proofs.Laws.Follows.{Follows, follows, follows-walk, follows-same}
 use Rattle.message.proofs.Laws.Opening.{GoodSize}
 use Rattle.message.specs.Sizes.{header, codePlace}
 use Rattle.message.specs.Walk.{walkFrom}
@@ -17,7 +18,6 @@ use Rattle.board.specs.declared.record.Board.{Board}
 use Rattle.requests.specs.Requests.{trail}
 use Rattle.responder.specs.Answers.{groupOf}
 use Rattle.responder.specs.Reply.{writeAll, codeOf, served, reply}
-use Rattle.responder.proofs.Laws.Follows.{Follows, follows, follows-walk, follows-same}
 use Rattle.responder.proofs.Laws.Saids.{saids-short, few-characters}
 use Rattle.responder.proofs.Laws.Written.{cut-writes, writes-before}
 use Rattle.demands.proofs.Laws.Replied.{Replied, untouched, walked, replied, clash}

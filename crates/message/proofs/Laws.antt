@@ -1,6 +1,13 @@
 pub mod Opening
 pub mod Steps
 pub mod Walks
+pub mod Follows
 pub mod Lister
 pub mod Reader
+pub mod Shown
+pub mod Found
+pub mod Met
+pub mod Paired
 pub mod Builder
+pub mod Asked
+pub mod Held

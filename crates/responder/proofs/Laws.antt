@@ -1,7 +1,6 @@
 pub mod Said
 pub mod Saids
 pub mod Serving
-pub mod Follows
 pub mod Written
 pub mod Twice
 pub mod Group

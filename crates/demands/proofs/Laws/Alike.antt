@@ -7,7 +7,7 @@ use native.Mathlib.Omega.{arith}
 use borrow.Author.Tests.{leb-false}
 use lib.Dec.{ltb, eqb}
 use lib.ListN.{length, take, getD}
-use Rattle.message.proofs.Laws.Reader.{Paired, none, both}
+use Rattle.message.proofs.Laws.Paired.{Paired, none, both}
 use Rattle.message.specs.Outcomes.{done}
 use Rattle.message.specs.Reader.{keptTag, withId}
 use Rattle.message.specs.declared.walk.Ending.{Ending}

@@ -9,7 +9,9 @@ use lib.Dec.{eqb}
 use lib.ListN.{length, take, drop, getD, length-take}
 use lib.Seq.{take-take}
 use Rattle.words.proofs.Laws.Agree.{part-before}
-use Rattle.message.proofs.Laws.Reader.{Nth, judged-fewer, judged-done}
+use Rattle.message.proofs.Laws.Follows.{Follows, follows-same}
+use Rattle.message.proofs.Laws.Found.{Nth}
+use Rattle.message.proofs.Laws.Reader.{judged-fewer, judged-done}
 use Rattle.message.proofs.Laws.Steps.{found}
 use Rattle.message.specs.Outcomes.{done, fewerStored}
 use Rattle.message.specs.Reader.{unread, keptTag, withId, judged, answerLength, stored}
@@ -19,7 +21,6 @@ use Rattle.message.specs.declared.walk.Tag.{Tag}
 use Rattle.answers.specs.Reply.{answered}
 use Rattle.responder.specs.Answers.{Said, silent, says}
 use Rattle.responder.specs.Reply.{writeAll}
-use Rattle.responder.proofs.Laws.Follows.{Follows, follows-same}
 use Rattle.responder.proofs.Laws.Written.{answered-length, answered-behind, answered-value, writes-before}
 use Rattle.demands.specs.ReadingBack.{noTag}
 use Rattle.demands.specs.Walked.{tagAfter, tagsAfter}

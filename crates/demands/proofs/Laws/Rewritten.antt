@@ -5,12 +5,12 @@ use Prim.Native.Nat.{ℕ, _+_, _≤_}
 use native.Mathlib.Omega.{arith}
 use lib.ListN.{length}
 use Rattle.words.specs.Numbers.{word}
+use Rattle.message.proofs.Laws.Follows.{Follows}
 use Rattle.message.proofs.Laws.Steps.{found}
 use Rattle.message.specs.Walk.{wordPlace, tagAt}
 use Rattle.message.specs.declared.walk.Ending.{Ending}
 use Rattle.message.specs.declared.walk.Tag.{Tag}
 use Rattle.answers.specs.Reply.{answered}
-use Rattle.responder.proofs.Laws.Follows.{Follows}
 use Rattle.responder.proofs.Laws.Saids.{Short}
 use Rattle.responder.proofs.Laws.Written.{answered-length, answered-word, rest₁, reworded}
 use Rattle.responder.specs.Answers.{Said, silent, says}

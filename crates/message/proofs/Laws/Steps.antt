@@ -1,10 +1,10 @@
 -- What stands at a place of the walk, case by case.
 use mathlib.Core.Bool.{Bool, true, false, _||_}
 use mathlib.Core.List.{List}
-use mathlib.Core.Path.{_≡_, refl, sym, ap}
+use mathlib.Core.Path.{_≡_, refl, sym, ap, _∙_}
 use Prim.Native.Nat.{ℕ, _+_, _≤_, _<_}
 use native.Mathlib.Omega.{arith}
-use borrow.Author.Tests.{eq-eqb, ne-eqb, lt-ltb, le-ltb, ltb-false}
+use borrow.Author.Tests.{eq-eqb, ne-eqb, lt-ltb, le-ltb, eqb-false, ltb-false}
 use lib.Dec.{ltb, eqb}
 use lib.ListN.{length, drop}
 use Rattle.words.proofs.Laws.Agree.{number-behind}
@@ -76,6 +76,16 @@ found m size p {t} {next} e = go (eqb p size) (eqb (word m p) 0) (overruns m siz
         let size-is : t .size ≡ tagAt m p .size = sym (ap (λ (x : Tag). x .size) is) in
         let fits = ltb-false size (behind (tagAt m p)) (or-none (ltb size (p + tagHeader)) (ltb size (behind (tagAt m p))) o) in
         record { is = sym is; at = at; next-is = rw size-is (sym there); fits = rw (← there) fits }
+
+-- its id is not 0
+pub tag-named : (m : List ℕ) (size p : ℕ) {t : Tag} {next : ℕ} → step m size p ≡ Step.Tag t next → t .id ≡ 0 → ⊥
+unfolding step tagAt
+tag-named m size p {t} {next} e z = go (eqb p size) (eqb (word m p) 0) (overruns m size p) refl e
+  where
+    go : (a b c : Bool) → eqb (word m p) 0 ≡ b → stepOf a b c (tagAt m p) ≡ Step.Tag t next → ⊥
+    go true b c eb q = fault-tag q
+    go false true c eb q = end-tag q
+    go false false c eb q = eqb-false (word m p) 0 eb (sym (ap (λ (x : Tag). x .id) (found m size p e .is)) ∙ z)
 
 -- the next place is one of the walk too
 pub walking-on : (m m′ : List ℕ) (size p : ℕ) {t : Tag} {next : ℕ} → Walking m size p → Found m size p t next → length m′ ≡ length m → Walking m′ size next

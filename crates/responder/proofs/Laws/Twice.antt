@@ -10,6 +10,7 @@ use Rattle.words.proofs.Laws.Agree.{drop-later, part-before}
 use Rattle.words.proofs.Laws.Put.{put-apart}
 use Rattle.words.specs.Numbers.{le, word}
 use Rattle.words.specs.Put.{put}
+use Rattle.message.proofs.Laws.Follows.{Follows, follows, follows-walk, follows-same}
 use Rattle.message.proofs.Laws.Steps.{found, step-same}
 use Rattle.message.specs.Sizes.{header, tagHeader}
 use Rattle.message.specs.Walk.{Walk, wordPlace, tagAt, step, walkFrom}
@@ -26,7 +27,6 @@ use Rattle.display.specs.declared.decision.Decision.{Decision}
 use Rattle.requests.proofs.Laws.Trails.{trail-tag, request-same}
 use Rattle.requests.specs.Ask.{askOf}
 use Rattle.requests.specs.Requests.{Request, passed, short, asks, requestBy, requestOf, Trail, ends, goesOn, cutBy, cut, trail}
-use Rattle.responder.proofs.Laws.Follows.{Follows, follows, follows-walk, follows-same}
 use Rattle.responder.proofs.Laws.Said.{after-is, after-line}
 use Rattle.responder.proofs.Laws.Saids.{ShortSaid, said-short, after-facts}
 use Rattle.responder.proofs.Laws.Written.{answered-word, written-length, written-behind, writes-before, cut-writes, reworded}

@@ -8,7 +8,8 @@ use Rattle.words.proofs.Laws.Agree.{take-earlier, number-before}
 use Rattle.words.proofs.Laws.Put.{length-put, drop-put, take-put, read-put, number-put}
 use Rattle.words.specs.Numbers.{le, word}
 use Rattle.words.specs.Put.{put}
-use Rattle.message.proofs.Laws.Steps.{found, step-tag}
+use Rattle.message.proofs.Laws.Follows.{Follows, follows-same}
+use Rattle.message.proofs.Laws.Steps.{found, step-tag, tag-named}
 use Rattle.message.specs.Sizes.{tagHeader}
 use Rattle.message.specs.Walk.{sizePlace, wordPlace, tagAt, step}
 use Rattle.message.specs.declared.walk.Ending.{Ending}
@@ -20,7 +21,6 @@ use Rattle.display.specs.declared.decision.Decision.{Decision}
 use Rattle.requests.specs.Requests.{Request, passed, short, asks, requestOf, cutBy, cut}
 use Rattle.responder.specs.Answers.{Said, silent, says, saidBy, afterBy, answers}
 use Rattle.responder.specs.Reply.{written, writeAll}
-use Rattle.responder.proofs.Laws.Follows.{Follows, follows-same, found-named}
 
 -- ---- one answer
 module _ (at size : ℕ) (answer m : List ℕ) where
@@ -96,7 +96,7 @@ step-reworded m m′ size p {t} {next} {w} e ei es ew =
     let f = found m size p e in
     let id : t .id ≡ word m p = ap (λ (x : Tag). x .id) (f .is) in
     let size-is : t .size ≡ word m (p + sizePlace) = ap (λ (x : Tag). x .size) (f .is) in
-    let s = sym (step-tag m′ size p (λ z. omega arith) {id = t .id} (id ∙ sym ei) (λ z. found-named m size p e (sym id ∙ z)) {v = t .size} (size-is ∙ sym es) refl (let n = f .next-is in let q = f .fits in omega arith) (sym ew)) in
+    let s = sym (step-tag m′ size p (λ z. omega arith) {id = t .id} (id ∙ sym ei) (tag-named m size p e) {v = t .size} (size-is ∙ sym es) refl (let n = f .next-is in let q = f .fits in omega arith) (sym ew)) in
     rw (f .at, f .next-is) s
 
 -- the header of a tag, with what is written into it and behind it

@@ -1,20 +1,16 @@
 -- A walk as a list of tags that follow one another.
 use mathlib.Core.List.{List, [], _∷_}
-use mathlib.Core.Bool.{Bool, true, false}
 use mathlib.Core.Path.{_≡_, refl, sym, ap, _∙_}
 use Prim.Native.Nat.{ℕ, zero, suc, _+_, _<_}
 use native.Mathlib.Omega.{arith}
-use borrow.Author.Tests.{eqb-false}
-use lib.Dec.{eqb}
 use lib.ListN.{drop}
 use Rattle.words.proofs.Laws.Agree.{drop-later}
-use Rattle.words.specs.Numbers.{word}
 use Rattle.message.proofs.Laws.Steps.{found, step-same}
 use Rattle.message.proofs.Laws.Walks.{walk-tag}
-use Rattle.message.specs.Walk.{tagAt, overruns, stepOf, step, endingOf, stopped, more, walk, walkFrom}
+use Rattle.message.specs.Walk.{step, endingOf, stopped, more, walk, walkFrom}
 use Rattle.message.specs.declared.walk.Ending.{Ending}
 use Rattle.message.specs.declared.walk.Step.{Step}
 use Rattle.message.specs.declared.walk.Tag.{Tag}
 
 abbrev pub IsStop : Step → Type 0
 IsStop Step.End = Unit {0}
@@ -54,13 +50,3 @@ follows-same m m′ size p [] e d h = rw (← (step-same m m′ size p d)) h
 follows-same m m′ size p (t ∷ ts) e d h =
     let f = found m size p (h .1) in
     (h .0, sym (step-same m m′ size p d) ∙ h .1, follows-same m m′ size (h .0) ts e (drop-later p (h .0) m m′ (omega arith) d) (h .2))
-
--- a tag has an id that is not 0
-pub found-named : (m : List ℕ) (size p : ℕ) {t : Tag} {next : ℕ} → step m size p ≡ Step.Tag t next → word m p ≡ 0 → ⊥
-unfolding step
-found-named m size p {t} {next} e = go (eqb p size) (eqb (word m p) 0) (overruns m size p) refl e
-  where
-    go : (a b c : Bool) → eqb (word m p) 0 ≡ b → stepOf a b c (tagAt m p) ≡ Step.Tag t next → word m p ≡ 0 → ⊥
-    go true b c z q = let k : _≡_ {A = ℕ} 0 1 = cc in absurd (omega arith)
-    go false true c z q = let k : _≡_ {A = ℕ} 0 1 = cc in absurd (omega arith)
-    go false false c z q = eqb-false (word m p) 0 z
