@@ -1,9 +1,9 @@
 -- Two faultless requests alike but for longer value buffers in the second.
-use mathlib.Core.Bool.{Bool, true, false, cond}
+use mathlib.Core.Bool.{Bool, true, false}
 use mathlib.Core.List.{List, map}
 use mathlib.Core.Logic.{inl}
 use mathlib.Core.Path.{_≡_, refl, sym, ap, _∙_}
-use Prim.Native.Nat.{ℕ, _+_, _≤_, _<_, min}
+use Prim.Native.Nat.{ℕ, _≤_, _<_, min}
 use native.Mathlib.Omega.{arith}
 use borrow.Author.Tests.{ltb-true, ltb-false}
 use lib.Dec.{ltb, leb}
@@ -12,9 +12,8 @@ use Rattle.words.specs.Numbers.{word}
 use Rattle.message.proofs.Laws.Found.{unmet-end}
 use Rattle.message.proofs.Laws.Paired.{Paired, paired-found}
 use Rattle.message.specs.Builder.{Call}
-use Rattle.message.specs.Outcomes.{done, noSuchTag, notAnswered, fewerStored}
-use Rattle.message.specs.Reader.{unread, unmet, isAnswered, answerLength, stored, judged, withId, foundIn, found}
-use Rattle.message.specs.Sizes.{tagHeader}
+use Rattle.message.specs.Outcomes.{done, noSuchTag, notAnswered}
+use Rattle.message.specs.Reader.{unmet, isAnswered, stored, judgedBy, judged, withId, foundIn, found}
 use Rattle.message.specs.declared.reader.Reading.{Reading}
 use Rattle.message.specs.declared.walk.Ending.{Ending}
 use Rattle.message.specs.declared.walk.Tag.{Tag}
@@ -60,10 +59,7 @@ judged-alike : (t u : Tag) (wanted : ℕ) → Pair t u → RefusedAlike (judged 
 unfolding judged
 judged-alike t u wanted p = go (isAnswered t) (isAnswered u) (ltb (stored t) wanted) (ap (leb 0x8000_0000) (p .word))
   where
-    shown : Tag → Reading
-    shown x = record { outcome = done; place = 0; length = answerLength x; value = x .at + tagHeader; count = wanted }
-
-    go : (a c f : Bool) → a ≡ c → RefusedAlike (cond a (cond f (unread fewerStored 0) (shown t)) (unread notAnswered 0)) (cond c (cond (ltb (stored u) wanted) (unread fewerStored 0) (shown u)) (unread notAnswered 0))
+    go : (a c f : Bool) → a ≡ c → RefusedAlike (judgedBy a f t wanted) (judgedBy c (ltb (stored u) wanted) u wanted)
     go true c true e = record { missing = λ z. absurd (omega arith); passed = λ z. absurd (omega arith) }
     go true c false e = record { missing = λ z. absurd (omega arith); passed = λ z. absurd (omega arith) }
     go false true f e = let q : _≡_ {A = ℕ} 0 1 = cc in absurd (omega arith)

@@ -2,7 +2,7 @@
 use mathlib.Core.Bool.{Bool, true, false, cond}
 use mathlib.Core.List.{List}
 use mathlib.Core.Path.{_≡_, refl, sym, ap, _∙_}
-use Prim.Native.Nat.{ℕ, _+_, _≤_}
+use Prim.Native.Nat.{ℕ, _≤_}
 use native.Mathlib.Omega.{arith}
 use borrow.Author.Tests.{leb-true, eqb-false, ltb-false}
 use lib.Dec.{ltb, eqb}
@@ -11,9 +11,9 @@ use Rattle.words.specs.Numbers.{word}
 use Rattle.message.proofs.Laws.Found.{Nth, Sought, present, absent, sought, found-not-response, found-judged, found-unmet}
 use Rattle.message.proofs.Laws.Reader.{read-refused}
 use Rattle.message.specs.Opening.{goodSize, opened}
-use Rattle.message.specs.Outcomes.{done, tooFewLent, badSize, notResponse, noSuchTag, notAnswered, fewerStored}
-use Rattle.message.specs.Reader.{isResponse, isAnswered, answerLength, stored, unread, unmet, judged, withId, found}
-use Rattle.message.specs.Sizes.{header, tagHeader, smallest, codePlace}
+use Rattle.message.specs.Outcomes.{done, tooFewLent, badSize, notResponse, noSuchTag}
+use Rattle.message.specs.Reader.{isResponse, isAnswered, stored, unmet, judgedBy, judged, withId, found}
+use Rattle.message.specs.Sizes.{header, smallest, codePlace}
 use Rattle.message.specs.Walk.{notMet, walkFrom}
 use Rattle.message.specs.declared.opening.Message.{Message}
 use Rattle.message.specs.declared.opening.Opened.{Opened}
@@ -30,9 +30,7 @@ pub judged-enough : (t : Tag) (wanted : ℕ) → judged t wanted .outcome ≡ do
 unfolding judged
 judged-enough t wanted e = go (isAnswered t) (ltb (stored t) wanted) refl refl e
   where
-    go : (a f : Bool) → isAnswered t ≡ a → ltb (stored t) wanted ≡ f
-        → cond a (cond f (unread fewerStored 0) (record { outcome = done; place = 0; length = answerLength t; value = t .at + tagHeader; count = wanted })) (unread notAnswered 0) .outcome ≡ done
-        → Enough t wanted
+    go : (a f : Bool) → isAnswered t ≡ a → ltb (stored t) wanted ≡ f → judgedBy a f t wanted .outcome ≡ done → Enough t wanted
     go false f ea ef q = absurd (omega arith)
     go true true ea ef q = absurd (omega arith)
     go true false ea ef q = record { answered = leb-true 0x8000_0000 (t .word) ea; holds = ltb-false (stored t) wanted ef }

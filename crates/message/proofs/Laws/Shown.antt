@@ -1,5 +1,5 @@
 -- What is read lies in the message, and is shown as a part of the bytes that the caller lent.
-use mathlib.Core.Bool.{Bool, true, false, cond}
+use mathlib.Core.Bool.{Bool, true, false}
 use mathlib.Core.List.{List}
 use mathlib.Core.Path.{_≡_, refl, sym, ap, _∙_}
 use Prim.Native.Nat.{ℕ, zero, suc, _+_, _≤_}
@@ -12,8 +12,8 @@ use Rattle.words.specs.Numbers.{word}
 use Rattle.message.proofs.Laws.Opening.{opened-walking}
 use Rattle.message.proofs.Laws.Steps.{found as step-found}
 use Rattle.message.specs.Opening.{opened}
-use Rattle.message.specs.Outcomes.{done, notAnswered, fewerStored}
-use Rattle.message.specs.Reader.{isResponse, isAnswered, answerLength, stored, unread, unmet, judged, keptTag, withId, occurrenceOf, foundIn, foundIf, foundOf, found, View, view, partOf, shownPart, partIf, shownOr}
+use Rattle.message.specs.Outcomes.{done}
+use Rattle.message.specs.Reader.{isResponse, isAnswered, stored, unmet, judgedBy, judged, keptTag, withId, occurrenceOf, foundIn, foundIf, foundOf, found, View, view, partOf, shownPart, partIf, shownOr}
 use Rattle.message.specs.Sizes.{header, tagHeader, codePlace}
 use Rattle.message.specs.Walk.{step, endingOf, walk, walkFrom}
 use Rattle.message.specs.declared.opening.Opened.{Opened}
@@ -30,10 +30,7 @@ judged-within : (t : Tag) (wanted size : ℕ) → t .at + tagHeader + t .size �
 unfolding judged
 judged-within t wanted size h = go (isAnswered t) (ltb (stored t) wanted) refl
   where
-    go : (a f : Bool) → ltb (stored t) wanted ≡ f
-        → cond a (cond f (unread fewerStored 0) (record { outcome = done; place = 0; length = answerLength t; value = t .at + tagHeader; count = wanted })) (unread notAnswered 0) .value
-        + cond a (cond f (unread fewerStored 0) (record { outcome = done; place = 0; length = answerLength t; value = t .at + tagHeader; count = wanted })) (unread notAnswered 0) .count
-        ≤ size
+    go : (a f : Bool) → ltb (stored t) wanted ≡ f → judgedBy a f t wanted .value + judgedBy a f t wanted .count ≤ size
     go false f e = omega arith
     go true true e = omega arith
     go true false e = let l = ltb-false (stored t) wanted e in omega arith
