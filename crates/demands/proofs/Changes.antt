@@ -12,12 +12,12 @@ use Rattle.message.specs.Sizes.{header, tagHeader, codePlace}
 use Rattle.message.specs.Walk.{wordPlace}
 use Rattle.message.specs.declared.walk.Tag.{Tag}
 use Rattle.answers.specs.Reply.{answered}
-use Rattle.requests.proofs.Laws.Endings.{ending-known}
+use Rattle.requests.proofs.Laws.Endings.{ending-outcome}
 use Rattle.responder.proofs.Laws.Written.{writes-length}
 use Rattle.responder.specs.Answers.{Said, silent, says}
 use Rattle.responder.specs.Reply.{writeAll, codeOf, served, reply}
 use Rattle.demands.proofs.Laws.Replied.{Replied, untouched, walked, replied, clash}
-use Rattle.demands.specs.Changes.{Outside, Unanswered, trailOf, saidOf, Changes, Lengths, Refusals}
+use Rattle.demands.specs.Changes.{Outside, Unanswered, trailOf, answersOf, Changes, Lengths, Refusals}
 
 -- ---- writes
 put-outside : (p : ℕ) (bs m : List ℕ) (i n : ℕ) → length bs ≡ n → Outside i p n → getD (put p bs m) i 0 ≡ getD m i 0
@@ -44,7 +44,7 @@ changes b m i c u = go (replied b m)
   where
     go : Replied b m → getD (reply b m .bytes) i 0 ≡ getD m i 0
     go (untouched o e f) = rw e
-    go (walked v g e) = rw e (put-outside codePlace (le 4 (codeOf (trailOf m .ending .outcome))) (writeAll (trailOf m .tags) (saidOf b m) m) i 4 refl c ∙ writes-outside (trailOf m .tags) (saidOf b m) m i u)
+    go (walked v g e) = rw e (put-outside codePlace (le 4 (codeOf (trailOf m .ending .outcome))) (writeAll (trailOf m .tags) (answersOf b m) m) i 4 refl c ∙ writes-outside (trailOf m .tags) (answersOf b m) m i u)
 
 pub lengths : Lengths
 unfolding served
@@ -52,7 +52,7 @@ lengths b m = go (replied b m)
   where
     go : Replied b m → length (reply b m .bytes) ≡ length m
     go (untouched o e f) = rw e
-    go (walked v g e) = rw e (length-put codePlace (le 4 (codeOf (trailOf m .ending .outcome))) (writeAll (trailOf m .tags) (saidOf b m) m) ∙ writes-length (trailOf m .tags) (saidOf b m) m)
+    go (walked v g e) = rw e (length-put codePlace (le 4 (codeOf (trailOf m .ending .outcome))) (writeAll (trailOf m .tags) (answersOf b m) m) ∙ writes-length (trailOf m .tags) (answersOf b m) m)
 
 pub refusals : Refusals
 unfolding served
@@ -62,4 +62,4 @@ refusals b m o = go (replied b m)
     go (untouched n e f) = (e, f)
     go (walked v g e) =
         let s : reply b m .answer .outcome ≡ trailOf m .ending .outcome = rw e in
-        absurd (clash (trailOf m .ending .outcome) (ending-known m (word m 0) header) (rw s at o))
+        absurd (clash (trailOf m .ending .outcome) (ending-outcome m (word m 0) header) (rw s at o))

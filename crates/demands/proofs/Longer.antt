@@ -27,7 +27,7 @@ use Rattle.demands.proofs.Laws.Alike.{requests-same, walk-done, Pair, p
 use Rattle.demands.proofs.Laws.Replied.{Replied, untouched, walked, replied, clash}
 use Rattle.demands.proofs.ReadingBack.{reads, found-left}
 use Rattle.demands.proofs.Walked.{walked-is, bytes-are}
-use Rattle.demands.specs.Changes.{trailOf, saidOf}
+use Rattle.demands.specs.Changes.{trailOf, answersOf}
 use Rattle.demands.specs.Longer.{Alike, storedAt, Shown, Same, Longer}
 use Rattle.demands.specs.ReadingBack.{tagOf, occurrence, saidAt, readingOf, ReadsAnswer}
 use Rattle.demands.specs.Walked.{tagsAfter, walkOf, Six}
@@ -36,7 +36,7 @@ use Rattle.demands.specs.Walked.{tagsAfter, walkOf, Six}
 record Faultless (b : Board) (m : List ℕ) : Type 0 where
   pub ending : trailOf m .ending .outcome ≡ done
   pub board : reply b m .answer .board ≡ withDisplay (after b (trailOf m .requests)) (groupOf (b .display) (trailOf m .ending) (trailOf m .requests) .display)
-  pub found-is : Six b → (id n wanted : ℕ) → found (reply b m .bytes) id n wanted ≡ foundIn id n wanted (record { tags = tagsAfter (walkOf m .tags) (saidOf b m); ending = walkOf m .ending })
+  pub found-is : Six b → (id n wanted : ℕ) → found (reply b m .bytes) id n wanted ≡ foundIn id n wanted (record { tags = tagsAfter (walkOf m .tags) (answersOf b m); ending = walkOf m .ending })
 
 faultless : (b : Board) (m : List ℕ) → reply b m .answer .outcome ≡ done → Faultless b m
 unfolding served
@@ -85,7 +85,7 @@ module _ (b : Board) (m m′ : List ℕ) (six : Six b) (d : reply b m .answer .o
   unfolding groupOf
   group = rw (f .ending, f′ .ending, requests)
 
-  saids : saidOf b m ≡ saidOf b m′
+  saids : answersOf b m ≡ answersOf b m′
   saids =
       ap (λ (g : Decision). answers g b (trailOf m .requests)) group
       ∙ ap (answers (groupOf (b .display) (trailOf m′ .ending) (trailOf m′ .requests)) b) requests
@@ -97,8 +97,8 @@ module _ (b : Board) (m m′ : List ℕ) (six : Six b) (d : reply b m .answer .o
       ∙ ap (λ (rs : List Request). withDisplay (after b rs) (groupOf (b .display) (trailOf m′ .ending) (trailOf m′ .requests) .display)) requests
       ∙ sym (f′ .board)
 
-  paired : Paired Pair (tagsAfter (walkOf m .tags) (saidOf b m)) (tagsAfter (walkOf m′ .tags) (saidOf b m′))
-  paired = rw (← saids) (paired-after m m′ (walkOf m .tags) (walkOf m′ .tags) (saidOf b m) a)
+  paired : Paired Pair (tagsAfter (walkOf m .tags) (answersOf b m)) (tagsAfter (walkOf m′ .tags) (answersOf b m′))
+  paired = rw (← saids) (paired-after m m′ (walkOf m .tags) (walkOf m′ .tags) (answersOf b m) a)
 
   words-same : map (λ t. t .word) (walkOf (reply b m .bytes) .tags) ≡ map (λ t. t .word) (walkOf (reply b m′ .bytes) .tags)
   words-same = rw (walked-is b m six (inl d), walked-is b m′ six (inl d′)) (paired-words paired)
@@ -111,7 +111,7 @@ module _ (b : Board) (m m′ : List ℕ) (six : Six b) (d : reply b m .answer .o
   refused-alike id n wanted =
       rw (f .found-is six id n wanted, f′ .found-is six id n wanted)
       (paired-found (λ t u p. p .id) RefusedAlike id n wanted wanted
-      (record { tags = tagsAfter (walkOf m .tags) (saidOf b m); ending = walkOf m .ending }) (record { tags = tagsAfter (walkOf m′ .tags) (saidOf b m′); ending = walkOf m′ .ending })
+      (record { tags = tagsAfter (walkOf m .tags) (answersOf b m); ending = walkOf m .ending }) (record { tags = tagsAfter (walkOf m′ .tags) (answersOf b m′); ending = walkOf m′ .ending })
       (λ t u p. judged-alike t u wanted p)
       (ends-alike (walkOf m .ending) (walkOf m′ .ending) (walk-done m (walkOf m .tags) (walkOf m .ending) (f .ending)) (walk-done m′ (walkOf m′ .tags) (walkOf m′ .ending) (f′ .ending))) paired)
 

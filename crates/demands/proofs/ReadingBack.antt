@@ -29,7 +29,7 @@ use Rattle.responder.proofs.Laws.Written.{writes-length}
 use Rattle.demands.proofs.Laws.ReadBack.{nth-at, judged-shows, judged-lacks, value-written}
 use Rattle.demands.proofs.Laws.Replied.{Replied, untouched, walked, replied, clash}
 use Rattle.demands.proofs.Walked.{filled, code, whole, bytes-are, size-same, follows-whole}
-use Rattle.demands.specs.Changes.{trailOf, saidOf}
+use Rattle.demands.specs.Changes.{trailOf, answersOf}
 use Rattle.demands.specs.ReadingBack.{tagOf, occurrence, saidAt, Reads, ReadingBack}
 use Rattle.demands.specs.Walked.{tagAfter, tagsAfter, walkOf, Six}
 
@@ -47,7 +47,7 @@ module _ (b : Board) (m : List ℕ) (six : Six b) (v : valid b ≡ true) (g : Go
   left = whole b m six v g
 
   length-left : length left ≡ length m
-  length-left = length-put codePlace (code b m six v g) (filled b m six v g) ∙ writes-length (walkOf m .tags) (saidOf b m) m
+  length-left = length-put codePlace (code b m six v g) (filled b m six v g) ∙ writes-length (walkOf m .tags) (answersOf b m) m
 
   pub opens : opened left ≡ Opened.Good (record { size = word m 0 })
   opens =
@@ -60,7 +60,7 @@ module _ (b : Board) (m : List ℕ) (six : Six b) (v : valid b ≡ true) (g : Go
   code-is = go (eqb (trailOf m .ending .outcome) done)
     where
       n : length (filled b m six v g) ≡ length m
-      n = writes-length (walkOf m .tags) (saidOf b m) m
+      n = writes-length (walkOf m .tags) (answersOf b m) m
 
       go : (c : Bool) → word (put codePlace (le 4 (cond c 0x8000_0000 0x8000_0001)) (filled b m six v g)) codePlace ≡ cond c 0x8000_0000 0x8000_0001
       go true = let q = n in number-put 4 codePlace 0x8000_0000 (filled b m six v g) (omega arith) (omega arith)
@@ -73,35 +73,35 @@ module _ (b : Board) (m : List ℕ) (six : Six b) (v : valid b ≡ true) (g : Go
       go true e = response-done e
       go false e = response-fault e
 
-  walk-left : walkFrom left (word m 0) header ≡ record { tags = tagsAfter (walkOf m .tags) (saidOf b m); ending = walkOf m .ending }
-  walk-left = follows-walk left (word m 0) header (tagsAfter (walkOf m .tags) (saidOf b m)) (walkOf m .ending) (follows-whole b m six v g)
+  walk-left : walkFrom left (word m 0) header ≡ record { tags = tagsAfter (walkOf m .tags) (answersOf b m); ending = walkOf m .ending }
+  walk-left = follows-walk left (word m 0) header (tagsAfter (walkOf m .tags) (answersOf b m)) (walkOf m .ending) (follows-whole b m six v g)
 
-  pub found-left : (id n wanted : ℕ) → found left id n wanted ≡ foundIn id n wanted (record { tags = tagsAfter (walkOf m .tags) (saidOf b m); ending = walkOf m .ending })
+  pub found-left : (id n wanted : ℕ) → found left id n wanted ≡ foundIn id n wanted (record { tags = tagsAfter (walkOf m .tags) (answersOf b m); ending = walkOf m .ending })
   found-left id n wanted = found-response left opens response id n wanted ∙ ap (foundIn id n wanted) walk-left
 
   judged-left : (i : ℕ) → i < length (walkOf m .tags) → (wanted : ℕ) → found left (tagOf m i .id) (occurrence m i) wanted ≡ judged (tagAfter (tagOf m i) (saidAt b m i)) wanted
   judged-left i l wanted =
       found-judged left opens response (tagOf m i .id) (occurrence m i) wanted (tagAfter (tagOf m i) (saidAt b m i))
-      (rw walk-left (nth-at (tagOf m i .id) (walkOf m .tags) (saidOf b m) i l refl))
+      (rw walk-left (nth-at (tagOf m i .id) (walkOf m .tags) (answersOf b m) i l refl))
 
-  saids : Short (saidOf b m)
+  saids : Short (answersOf b m)
   saids = saids-short (groupOf (b .display) (trailOf m .ending) (trailOf m .requests)) b (trailOf m .requests) six (few-characters b v)
 
   value-left : (i : ℕ) → i < length (walkOf m .tags) → {answer : List ℕ} → saidAt b m i ≡ says answer → (k : ℕ) → k ≤ min (length answer) (tagOf m i .size)
       → take k (drop (tagOf m i .at + tagHeader) left) ≡ take k answer
   value-left i l e k q =
       ap (take k) (drop-later header (tagOf m i .at + tagHeader) left (filled b m six v g) (omega arith) (drop-put codePlace (code b m six v g) (filled b m six v g) header (omega arith)))
-      ∙ value-written m (word m 0) header (walkOf m .tags) (saidOf b m) (walkOf m .ending) (follows m (word m 0) header) (g .within) i l e k q
+      ∙ value-written m (word m 0) header (walkOf m .tags) (answersOf b m) (walkOf m .ending) (follows m (word m 0) header) (g .within) i l e k q
 
   module _ (is : reply b m .bytes ≡ left) where
     pub reads-left : Reads b m
     reads-left = record {
       answered = λ i l answer e. record {
         shows = λ wanted q. ap (λ (x : List ℕ). found x (tagOf m i .id) (occurrence m i) wanted) is ∙ judged-left i l wanted ∙ ap (λ (s : Said). judged (tagAfter (tagOf m i) s) wanted) e
-            ∙ judged-shows (tagOf m i) answer (short-at (saidOf b m) i saids e) wanted q;
+            ∙ judged-shows (tagOf m i) answer (short-at (answersOf b m) i saids e) wanted q;
         bytes = λ wanted q. ap (λ (x : List ℕ). take wanted (drop (tagOf m i .at + tagHeader) x)) is ∙ value-left i l e wanted q;
         fewer = λ wanted q. ap (λ (x : List ℕ). found x (tagOf m i .id) (occurrence m i) wanted) is ∙ judged-left i l wanted ∙ ap (λ (s : Said). judged (tagAfter (tagOf m i) s) wanted) e
-            ∙ judged-lacks (tagOf m i) answer (short-at (saidOf b m) i saids e) wanted q;
+            ∙ judged-lacks (tagOf m i) answer (short-at (answersOf b m) i saids e) wanted q;
       };
       passed = λ i l e w wanted. ap (λ (x : List ℕ). found x (tagOf m i .id) (occurrence m i) wanted) is ∙ judged-left i l wanted ∙ ap (λ (s : Said). judged (tagAfter (tagOf m i) s) wanted) e
           ∙ sym (judged-not-answered (tagOf m i) wanted w refl);

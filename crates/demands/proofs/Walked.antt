@@ -22,13 +22,13 @@ use Rattle.responder.proofs.Laws.Saids.{saids-short, few-characters}
 use Rattle.responder.proofs.Laws.Written.{cut-writes, writes-before}
 use Rattle.demands.proofs.Laws.Replied.{Replied, untouched, walked, replied, clash}
 use Rattle.demands.proofs.Laws.Rewritten.{follows-written}
-use Rattle.demands.specs.Changes.{trailOf, saidOf}
+use Rattle.demands.specs.Changes.{trailOf, answersOf}
 use Rattle.demands.specs.Walked.{tagsAfter, walkOf, Walked}
 
 module _ (b : Board) (m : List ℕ) (six : length (b .facts .mac) ≡ 6) (v : valid b ≡ true) (g : GoodSize (word m 0) (length m)) where
   -- what is written, and with the code word
   abbrev pub filled : List ℕ
-  filled = writeAll (walkOf m .tags) (saidOf b m) m
+  filled = writeAll (walkOf m .tags) (answersOf b m) m
 
   abbrev pub code : List ℕ
   code = le 4 (codeOf (trailOf m .ending .outcome))
@@ -43,26 +43,26 @@ module _ (b : Board) (m : List ℕ) (six : length (b .facts .mac) ≡ 6) (v : va
       (cut-writes (groupOf (b .display) (trailOf m .ending) (trailOf m .requests)) b m (walkOf m .tags) (walkOf m .ending) m)
 
   before : take header filled ≡ take header m
-  before = writes-before m (word m 0) header (walkOf m .tags) (saidOf b m) (walkOf m .ending) (follows m (word m 0) header)
+  before = writes-before m (word m 0) header (walkOf m .tags) (answersOf b m) (walkOf m .ending) (follows m (word m 0) header)
 
   pub size-same : word whole 0 ≡ word m 0
   size-same =
       number-before 4 0 codePlace whole filled (omega arith) (take-put codePlace codePlace code filled (omega arith)) ∙ number-before 4 0 header filled m (omega arith) before
 
-  pub follows-whole : Follows whole (word m 0) header (tagsAfter (walkOf m .tags) (saidOf b m)) (walkOf m .ending)
+  pub follows-whole : Follows whole (word m 0) header (tagsAfter (walkOf m .tags) (answersOf b m)) (walkOf m .ending)
   follows-whole =
-      follows-same filled whole (word m 0) header (tagsAfter (walkOf m .tags) (saidOf b m)) (walkOf m .ending) (sym (drop-put codePlace code filled header (omega arith)))
-      (follows-written m (word m 0) header (walkOf m .tags) (saidOf b m) (walkOf m .ending) (follows m (word m 0) header)
+      follows-same filled whole (word m 0) header (tagsAfter (walkOf m .tags) (answersOf b m)) (walkOf m .ending) (sym (drop-put codePlace code filled header (omega arith)))
+      (follows-written m (word m 0) header (walkOf m .tags) (answersOf b m) (walkOf m .ending) (follows m (word m 0) header)
       (saids-short (groupOf (b .display) (trailOf m .ending) (trailOf m .requests)) b (trailOf m .requests) six (few-characters b v)) (g .within))
 
-  pub walk-whole : walkOf whole ≡ record { tags = tagsAfter (walkOf m .tags) (saidOf b m); ending = walkOf m .ending }
+  pub walk-whole : walkOf whole ≡ record { tags = tagsAfter (walkOf m .tags) (answersOf b m); ending = walkOf m .ending }
   walk-whole =
       ap (λ (n : ℕ). walkFrom whole n header) size-same
-      ∙ follows-walk whole (word m 0) header (tagsAfter (walkOf m .tags) (saidOf b m)) (walkOf m .ending) follows-whole
+      ∙ follows-walk whole (word m 0) header (tagsAfter (walkOf m .tags) (answersOf b m)) (walkOf m .ending) follows-whole
 
 pub walked-is : Walked
 walked-is b m six w = go (replied b m)
   where
-    go : Replied b m → walkOf (reply b m .bytes) ≡ record { tags = tagsAfter (walkOf m .tags) (saidOf b m); ending = walkOf m .ending }
+    go : Replied b m → walkOf (reply b m .bytes) ≡ record { tags = tagsAfter (walkOf m .tags) (answersOf b m); ending = walkOf m .ending }
     go (untouched o e f) = absurd (clash (reply b m .answer .outcome) w o)
     go (walked v g e) = rw (e, bytes-are b m six v g) (walk-whole b m six v g)

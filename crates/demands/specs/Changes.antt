@@ -29,19 +29,21 @@ Unanswered (t ∷ ts) (says answer ∷ ss) i = Outside i (t .at + wordPlace) 4 �
 abbrev pub trailOf : List ℕ → Trail
 trailOf m = trail m (word m 0) header
 
-abbrev pub saidOf : Board → List ℕ → List Said
-saidOf b m = answers (groupOf (b .display) (trailOf m .ending) (trailOf m .requests)) b (trailOf m .requests)
+abbrev pub answersOf : Board → List ℕ → List Said
+answersOf b m = answers (groupOf (b .display) (trailOf m .ending) (trailOf m .requests)) b (trailOf m .requests)
 
 -- Only the code word, the tag words of answered tags and their stored answers change, byte by byte.
 abbrev pub Changes : Type 0
-Changes = (b : Board) (m : List ℕ) (i : ℕ) → Outside i codePlace 4 → Unanswered (trailOf m .tags) (saidOf b m) i → getD (reply b m .bytes) i 0 ≡ getD m i 0
+Changes = (b : Board) (m : List ℕ) (i : ℕ) → Outside i codePlace 4 → Unanswered (trailOf m .tags) (answersOf b m) i → getD (reply b m .bytes) i 0 ≡ getD m i 0
 
 -- The length never changes.
 abbrev pub Lengths : Type 0
 Lengths = (b : Board) (m : List ℕ) → length (reply b m .bytes) ≡ length m
 
+-- the outcomes 1, 2, 3 and 14
+abbrev pub Refusal : (outcome : ℕ) → Type 0
+Refusal outcome = (outcome ≡ tooFewLent) ⊎ ((outcome ≡ badSize) ⊎ ((outcome ≡ notRequest) ⊎ (outcome ≡ invalidBoard)))
+
 -- After 1, 2, 3 and 14 nothing changes, the record included.
 abbrev pub Refusals : Type 0
-Refusals =
-    (b : Board) (m : List ℕ) → let o = reply b m .answer .outcome in
-    (o ≡ tooFewLent) ⊎ ((o ≡ badSize) ⊎ ((o ≡ notRequest) ⊎ (o ≡ invalidBoard))) → (reply b m .bytes ≡ m) × (reply b m .answer .board ≡ b)
+Refusals = (b : Board) (m : List ℕ) → Refusal (reply b m .answer .outcome) → (reply b m .bytes ≡ m) × (reply b m .answer .board ≡ b)

@@ -9,10 +9,11 @@ use Rattle.message.specs.Sizes.{tagHeader}
 use Rattle.message.specs.declared.reader.Reading.{Reading}
 use Rattle.message.specs.declared.walk.Tag.{Tag}
 use Rattle.board.specs.declared.record.Board.{Board}
+use Rattle.requests.specs.Requests.{Walks}
 use Rattle.responder.specs.Answers.{Said, silent, says}
 use Rattle.responder.specs.Reply.{reply}
-use Rattle.demands.specs.Changes.{saidOf}
-use Rattle.demands.specs.Walked.{walkOf, Walks, Six}
+use Rattle.demands.specs.Changes.{answersOf}
+use Rattle.demands.specs.Walked.{walkOf, Six}
 
 abbrev pub noTag : Tag
 noTag = record { at = 0; id = 0; size = 0; word = 0 }
@@ -26,7 +27,7 @@ occurrence m i = length (withId (tagOf m i .id) (take i (walkOf m .tags)))
 
 -- what the responder has it say
 abbrev pub saidAt : Board → List ℕ → ℕ → Said
-saidAt b m i = getD (saidOf b m) i silent
+saidAt b m i = getD (answersOf b m) i silent
 
 -- what the reader gives, asked for the id and the occurrence of that tag in what the responder left
 abbrev pub readingOf : Board → List ℕ → (i wanted : ℕ) → Reading

@@ -1,18 +1,17 @@
 -- The walk of a reply: the tags of the rewritten message are the tags of the request, each at its place with its id and value size; only answered tags have another word.
 use mathlib.Core.List.{List, [], _∷_}
-use mathlib.Core.Logic.{_⊎_}
 use mathlib.Core.Path.{_≡_}
 use Prim.Native.Nat.{ℕ, _+_}
 use lib.ListN.{length}
 use Rattle.words.specs.Numbers.{word}
-use Rattle.message.specs.Outcomes.{done, noEnd, runsOver, shortRequest}
 use Rattle.message.specs.Sizes.{header}
 use Rattle.message.specs.Walk.{Walk, walkFrom}
 use Rattle.message.specs.declared.walk.Tag.{Tag}
 use Rattle.board.specs.declared.record.Board.{Board}
+use Rattle.requests.specs.Requests.{Walks}
 use Rattle.responder.specs.Answers.{Said, silent, says}
 use Rattle.responder.specs.Reply.{reply}
-use Rattle.demands.specs.Changes.{saidOf}
+use Rattle.demands.specs.Changes.{answersOf}
 
 -- a tag that says something has the word 0x80000000 + L; a silent one keeps its own
 abbrev pub tagAfter : Tag → Said → Tag
@@ -28,10 +27,6 @@ tagsAfter (t ∷ ts) (s ∷ ss) = tagAfter t s ∷ tagsAfter ts ss
 abbrev pub walkOf : List ℕ → Walk
 walkOf m = walkFrom m (word m 0) header
 
--- the responder walked the message: it gave 0, or one of the faults 4, 5, 6
-abbrev pub Walks : ℕ → Type 0
-Walks outcome = (outcome ≡ done) ⊎ ((outcome ≡ noEnd) ⊎ ((outcome ≡ runsOver) ⊎ (outcome ≡ shortRequest)))
-
 -- a MAC address has six bytes
 abbrev pub Six : Board → Type 0
 Six b = length (b .facts .mac) ≡ 6
@@ -40,4 +35,4 @@ Six b = length (b .facts .mac) ≡ 6
 abbrev pub Walked : Type 0
 Walked =
     (b : Board) (m : List ℕ) → Six b → Walks (reply b m .answer .outcome)
-    → walkOf (reply b m .bytes) ≡ record { tags = tagsAfter (walkOf m .tags) (saidOf b m); ending = walkOf m .ending }
+    → walkOf (reply b m .bytes) ≡ record { tags = tagsAfter (walkOf m .tags) (answersOf b m); ending = walkOf m .ending }

@@ -1,11 +1,13 @@
 -- What the tags of a message ask for. No size of a value buffer gets past this point.
 use mathlib.Core.Bool.{Bool, true, false, cond}
 use mathlib.Core.List.{List, [], _∷_}
+use mathlib.Core.Logic.{_⊎_}
+use mathlib.Core.Path.{_≡_}
 use Prim.Native.Nat.{ℕ, _+_}
 use lib.Dec.{leb, ltb}
 use lib.ListN.{take, drop}
 use Rattle.words.specs.Numbers.{word}
-use Rattle.message.specs.Outcomes.{shortRequest}
+use Rattle.message.specs.Outcomes.{done, noEnd, runsOver, shortRequest}
 use Rattle.message.specs.Sizes.{tagHeader}
 use Rattle.message.specs.Walk.{walkFrom}
 use Rattle.message.specs.declared.walk.Ending.{Ending}
@@ -72,3 +74,7 @@ cut m (t ∷ ts) e = cutBy (requestOf m t) t (cut m ts e)
 -- the trail of a message of `size` bytes, from p on
 unfoldable pub trail : List ℕ → (size p : ℕ) → Trail
 trail m size p = cut m (walkFrom m size p .tags) (walkFrom m size p .ending)
+
+-- the outcomes of a message that is walked: 0, or one of the faults 4, 5 and 6
+abbrev pub Walks : (outcome : ℕ) → Type 0
+Walks outcome = (outcome ≡ done) ⊎ ((outcome ≡ noEnd) ⊎ ((outcome ≡ runsOver) ⊎ (outcome ≡ shortRequest)))

@@ -16,13 +16,9 @@ use Rattle.message.specs.declared.opening.Message.{Message}
 use Rattle.message.specs.declared.opening.Opened.{Opened}
 use Rattle.board.specs.Valid.{valid}
 use Rattle.board.specs.declared.record.Board.{Board}
+use Rattle.requests.specs.Requests.{Walks}
 use Rattle.responder.specs.Reply.{served, reply}
-
-abbrev pub Refusal : ℕ → Type 0
-Refusal n = (n ≡ tooFewLent) ⊎ ((n ≡ badSize) ⊎ ((n ≡ notRequest) ⊎ (n ≡ invalidBoard)))
-
-abbrev pub Walks : ℕ → Type 0
-Walks n = (n ≡ done) ⊎ ((n ≡ noEnd) ⊎ ((n ≡ runsOver) ⊎ (n ≡ shortRequest)))
+use Rattle.demands.specs.Changes.{Refusal}
 
 -- no walk ends as a refusal does
 apart : (n x : ℕ) → n ≡ x → (x ≡ tooFewLent → ⊥) → (x ≡ badSize → ⊥) → (x ≡ notRequest → ⊥) → (x ≡ invalidBoard → ⊥) → Refusal n → ⊥
