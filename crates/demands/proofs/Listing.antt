@@ -1,5 +1,5 @@
 -- The lister shows what the builder took.
-use Rattle.message.proofs.Laws.Builder.{started-at}
+use Rattle.message.proofs.Laws.Built.{started-at}
 use Rattle.message.specs.Builder.{started}
 use Rattle.message.specs.Sizes.{header}
 use Rattle.demands.proofs.Laws.Lists.{lists}

@@ -9,5 +9,6 @@ pub mod Found
 pub mod Met
 pub mod Paired
 pub mod Builder
+pub mod Built
 pub mod Asked
 pub mod Held

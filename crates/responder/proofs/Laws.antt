@@ -1,7 +1,9 @@
 pub mod Said
+pub mod Fixed
 pub mod Saids
 pub mod Serving
 pub mod Written
+pub mod Apart
 pub mod Twice
 pub mod Group
 pub mod Concluding

@@ -7,7 +7,7 @@ use borrow.Rule.Slice.PartMut.{putMid}
 use lib.ListN.{length, take, drop, replicate, length-take, length-replicate}
 use Rattle.words.proofs.Laws.Numbers.{length-le}
 use Rattle.words.proofs.Laws.Parts.{over-all, put-mid}
-use Rattle.words.proofs.Laws.Put.{put-behind}
+use Rattle.words.proofs.Laws.Put.{put-behind, put-apart}
 use Rattle.words.specs.Numbers.{le}
 use Rattle.words.specs.Put.{over, put}
 use Rattle.message.specs.Sizes.{tagHeader}
@@ -56,3 +56,19 @@ answered-is at size bytes m {n} {m₁} {part} en e₁ ep =
     ap (putMid (at + tagHeader) (at + tagHeader + size - (at + tagHeader)) m₁) ep
     ∙ put-mid (at + tagHeader) (at + tagHeader + size - (at + tagHeader)) bytes m₁
     ∙ rw (k, e₁, en)
+
+-- ---- answers of tags that stand apart are written in either order
+module _ (at size : ℕ) (x : List ℕ) (at′ size′ : ℕ) (x′ : List ℕ) (apart : at + tagHeader + size ≤ at′) where
+  pub answered-apart : (m : List ℕ) → answered at′ size′ x′ (answered at size x m) ≡ answered at size x (answered at′ size′ x′ m)
+  unfolding answered
+  answered-apart m =
+      let w = le 4 (0x8000_0000 + length x) in
+      let w′ = le 4 (0x8000_0000 + length x′) in
+      let v = take size x in
+      let v′ = take size′ x′ in
+      let l : length v ≤ size = simp length-take (omega arith) in
+      let m₁ = put (at + wordPlace) w m in
+      ap (put (at′ + tagHeader) v′) (put-apart (at + tagHeader) (at′ + wordPlace) v w′ m₁ (omega arith))
+      ∙ put-apart (at + tagHeader) (at′ + tagHeader) v v′ (put (at′ + wordPlace) w′ m₁) (omega arith)
+      ∙ ap (λ (y : List ℕ). put (at + tagHeader) v (put (at′ + tagHeader) v′ y)) (put-apart (at + wordPlace) (at′ + wordPlace) w w′ m (omega arith))
+      ∙ ap (put (at + tagHeader) v) (put-apart (at + wordPlace) (at′ + tagHeader) w v′ (put (at′ + wordPlace) w′ m) (omega arith))

@@ -11,7 +11,8 @@ use Rattle.words.proofs.Laws.Agree.{take-earlier, part-before, number-behind, n
 use Rattle.words.proofs.Laws.Put.{length-put, drop-put, take-put, read-put, number-put, put-behind}
 use Rattle.words.specs.Numbers.{le, word}
 use Rattle.words.specs.Put.{put, zeros}
-use Rattle.message.proofs.Laws.Builder.{taken, add-refused, add-done, accepted}
+use Rattle.message.proofs.Laws.Builder.{taken}
+use Rattle.message.proofs.Laws.Built.{add-refused, add-done, accepted}
 use Rattle.message.proofs.Laws.Opening.{GoodSize}
 use Rattle.message.specs.Builder.{Call, addOutcome, finished, closed, finishedSize}
 use Rattle.message.specs.Outcomes.{done}

@@ -24,8 +24,9 @@ use Rattle.display.specs.declared.decision.Decision.{Decision}
 use Rattle.display.specs.declared.operation.Operation.{Operation}
 use Rattle.requests.specs.Requests.{Trail, trail}
 use Rattle.responder.proofs.Laws.Group.{answers-unanswered, without, display-without}
-use Rattle.responder.proofs.Laws.Saids.{few-characters, after-display}
-use Rattle.responder.proofs.Laws.Twice.{SameFixed, after-fixed, Twice, twice}
+use Rattle.responder.proofs.Laws.Fixed.{SameFixed, after-fixed}
+use Rattle.responder.proofs.Laws.Saids.{few-characters}
+use Rattle.responder.proofs.Laws.Twice.{Twice, twice}
 use Rattle.responder.proofs.Laws.Written.{writes-length}
 use Rattle.responder.specs.Answers.{Said, operation, groupBy, groupOf, answers, after}
 use Rattle.responder.specs.Progress.{Through, Came, Led, refused, walked, Ready, Concluded, Answerable}
@@ -46,7 +47,7 @@ module _ (b₀ : Board) (m₀ : List ℕ) (size : ℕ) (came : Came b₀ m₀ si
 
   module _ {m : List ℕ} {b : Board} {o : Operation} {e : Ending} (w : Through left m₀ size b₀ m b o e) where
     same-display : b .display ≡ b₀ .display
-    same-display = ap (λ (x : Board). x .display) (w .board) ∙ after-display b₀ (tr .requests)
+    same-display = ap (λ (x : Board). x .display) (w .board) ∙ after-fixed b₀ (tr .requests) .display
 
     pub walked-display : validDisplay (b .display) ≡ true
     walked-display = rw same-display (valid-parts b₀ (came .holds) .display)

@@ -50,19 +50,6 @@ module _ (b : Board) where
   after-is (asks (Kind.Temperature t) bytes) = refl
   after-is (asks (Kind.Frame t) bytes) = refl
 
-  -- the command line and the facts stay
-  pub after-line : (q : Ask) → afterOf b q .line ≡ b .line
-  unfolding afterOf
-  after-line Ask.Pass = refl
-  after-line Ask.Short = refl
-  after-line (Ask.Fixed a n) = refl
-  after-line (Ask.Fact t) = refl
-  after-line (Ask.Power t i a x) = refl
-  after-line (Ask.Clock t i a x) = refl
-  after-line (Ask.Voltage t i a x) = refl
-  after-line (Ask.Temperature t a) = refl
-  after-line (Ask.Frame t a x) = refl
-
 -- ---- what is noted
 pub note-is : (r : Request) (o : Operation) → noteBy r o ≡ noteOf (askOf r) o
 unfolding askOf kindAsk

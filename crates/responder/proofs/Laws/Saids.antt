@@ -1,7 +1,7 @@
 -- What is said is never long.
 use mathlib.Core.Bool.{Bool, true, false, cond, and-eq-true-iff}
 use mathlib.Core.List.{List, [], _∷_}
-use mathlib.Core.Path.{_≡_, refl, ap, _∙_}
+use mathlib.Core.Path.{_≡_, ap, _∙_}
 use Prim.Native.Nat.{ℕ, _^_, _≤_, _<_}
 use native.Mathlib.Omega.{arith}
 use borrow.Author.Tests.{leb-true}
@@ -15,11 +15,12 @@ use Rattle.table.specs.declared.kinds.Kind.{Kind}
 use Rattle.answers.proofs.Laws.Answers.{answer-short}
 use Rattle.answers.specs.Answer.{answerBytes}
 use Rattle.answers.specs.declared.answer.Answer.{Answer}
-use Rattle.tags.specs.Outside.{outsideAnswer, outsideAfter}
+use Rattle.tags.specs.Outside.{outsideAnswer}
 use Rattle.display.specs.Decision.{groupAnswer}
 use Rattle.display.specs.declared.decision.Decision.{Decision}
 use Rattle.requests.specs.Requests.{first, second, Request, passed, short, asks}
-use Rattle.responder.specs.Answers.{Said, silent, says, saidBy, afterBy, answers, after}
+use Rattle.responder.proofs.Laws.Fixed.{after-same}
+use Rattle.responder.specs.Answers.{Said, silent, says, saidBy, afterBy, answers}
 
 answer-fits : (f : Facts) (line : List ℕ) (a : Answer) → length (f .mac) ≡ 6 → f .characters ≤ 256 → length (answerBytes f line a) < 2 ^ 31
 answer-fits f line a mac l = let s = answer-short f line a mac (omega arith) in omega arith
@@ -43,34 +44,6 @@ said-short g b (asks (Kind.Clock t) bytes) mac l = answer-fits (b .facts) (b .li
 said-short g b (asks (Kind.Voltage t) bytes) mac l = answer-fits (b .facts) (b .line) (outsideAnswer (Kind.Voltage t) (first bytes) (second bytes) b) mac l
 said-short g b (asks (Kind.Temperature t) bytes) mac l = answer-fits (b .facts) (b .line) (outsideAnswer (Kind.Temperature t) (first bytes) (second bytes) b) mac l
 
--- the facts never change
-pub after-facts : (b : Board) (r : Request) → afterBy b r .facts ≡ b .facts
-unfolding afterBy outsideAfter
-after-facts b passed = refl
-after-facts b short = refl
-after-facts b (asks (Kind.Frame t) bytes) = refl
-after-facts b (asks (Kind.Fact t) bytes) = refl
-after-facts b (asks (Kind.Power t) bytes) = refl
-after-facts b (asks (Kind.Clock t) bytes) = refl
-after-facts b (asks (Kind.Voltage t) bytes) = refl
-after-facts b (asks (Kind.Temperature t) bytes) = refl
-
--- nor does the display, before the group is carried out
-after-display-by : (b : Board) (r : Request) → afterBy b r .display ≡ b .display
-unfolding afterBy outsideAfter
-after-display-by b passed = refl
-after-display-by b short = refl
-after-display-by b (asks (Kind.Frame t) bytes) = refl
-after-display-by b (asks (Kind.Fact t) bytes) = refl
-after-display-by b (asks (Kind.Power t) bytes) = refl
-after-display-by b (asks (Kind.Clock t) bytes) = refl
-after-display-by b (asks (Kind.Voltage t) bytes) = refl
-after-display-by b (asks (Kind.Temperature t) bytes) = refl
-
-pub after-display : (b : Board) (rs : List Request) → after b rs .display ≡ b .display
-after-display b [] = refl
-after-display b (r ∷ rs) = after-display (afterBy b r) rs ∙ after-display-by b r
-
 abbrev pub Short : List Said → Type 0
 Short [] = Unit {0}
 Short (silent ∷ ss) = Short ss
@@ -83,7 +56,7 @@ join (says answer) ss a h = (a, h)
 pub saids-short : (g : Decision) (b : Board) (rs : List Request) → length (b .facts .mac) ≡ 6 → b .facts .characters ≤ 256 → Short (answers g b rs)
 saids-short g b [] mac l = tt
 saids-short g b (r ∷ rs) mac l =
-    let f = after-facts b r in
+    let f = after-same b r .facts in
     join (saidBy g b r) (answers g (afterBy b r) rs) (said-short g b r mac l)
     (saids-short g (afterBy b r) rs (ap (λ (x : Facts). length (x .mac)) f ∙ mac) (rw f l))
 

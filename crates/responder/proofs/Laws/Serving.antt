@@ -45,7 +45,8 @@ use Rattle.requests.proofs.Laws.Trails.{trail-stop, trail-tag, request-same, cu
 use Rattle.requests.specs.Ask.{askOf, Named, InMessage}
 use Rattle.requests.specs.Requests.{Request, short, requestOf, Trail, ends, goesOn, cutBy, trail}
 use Rattle.requests.specs.declared.ask.Ask.{Ask}
-use Rattle.responder.proofs.Laws.Said.{said-is, after-is, note-is, after-line, short-asks}
+use Rattle.responder.proofs.Laws.Fixed.{after-same}
+use Rattle.responder.proofs.Laws.Said.{said-is, after-is, note-is, short-asks}
 use Rattle.responder.proofs.Laws.Written.{written-length, written-behind}
 use Rattle.responder.specs.Answers.{silent, says, noteBy, operation, saidBy, afterBy, after}
 use Rattle.responder.specs.Asked.{saidOf, afterOf, noteOf}
@@ -138,7 +139,7 @@ module _ (g : Decision) (m₀ : List ℕ) (size : ℕ) (b₀ : Board) (m : List 
           let behind : drop next m′ ≡ drop next m = ap (drop next) em ∙ written-behind t (saidOf g b q) m next (omega arith) in
           let s : saidOf g b q ≡ saidBy g b r = ap (saidOf g b) q₀ ∙ sym (said-is g b r) in
           let a : b′ ≡ afterBy b r = eb ∙ ap (afterOf b) q₀ ∙ sym (after-is b r) in
-          let l : length (b′ .line) ≡ length (b .line) = ap (λ (x : Board). length (x .line)) eb ∙ ap length (after-line b q) in
+          let l : length (b′ .line) ≡ length (b .line) = ap (λ (x : Board). length (x .line)) a ∙ ap length (after-same b r .line) in
           record {
             walking = walking-on m m′ size p w f same;
             same = same ∙ h .same;

@@ -4,15 +4,11 @@ use mathlib.Core.List.{List, [], _∷_}
 use mathlib.Core.Path.{_≡_, refl, sym, ap, _∙_, subst}
 use Prim.Native.Nat.{ℕ, _+_, _≤_}
 use native.Mathlib.Omega.{arith}
-use borrow.Author.Tests.{le-leb}
-use lib.ListN.{length, take, drop, length-take}
-use Rattle.words.proofs.Laws.Agree.{drop-later, part-before}
-use Rattle.words.proofs.Laws.Put.{put-apart}
-use Rattle.words.specs.Numbers.{le, word}
-use Rattle.words.specs.Put.{put}
+use lib.ListN.{length}
+use Rattle.words.specs.Numbers.{word}
 use Rattle.message.proofs.Laws.Follows.{Follows, follows, follows-walk, follows-same}
-use Rattle.message.proofs.Laws.Steps.{found, step-same}
-use Rattle.message.specs.Sizes.{header, tagHeader}
+use Rattle.message.proofs.Laws.Steps.{found}
+use Rattle.message.specs.Sizes.{header}
 use Rattle.message.specs.Walk.{Walk, wordPlace, tagAt, step, walkFrom}
 use Rattle.message.specs.declared.walk.Ending.{Ending}
 use Rattle.message.specs.declared.walk.Step.{Step}
@@ -24,88 +20,16 @@ use Rattle.table.specs.declared.kinds.Kind.{Kind}
 use Rattle.answers.specs.Reply.{answered}
 use Rattle.tags.specs.Outside.{outsideAfter}
 use Rattle.display.specs.declared.decision.Decision.{Decision}
-use Rattle.requests.proofs.Laws.Trails.{trail-tag, request-same}
-use Rattle.requests.specs.Ask.{askOf}
-use Rattle.requests.specs.Requests.{Request, passed, short, asks, requestBy, requestOf, Trail, ends, goesOn, cutBy, cut, trail}
-use Rattle.responder.proofs.Laws.Said.{after-is, after-line}
-use Rattle.responder.proofs.Laws.Saids.{ShortSaid, said-short, after-facts}
+use Rattle.requests.proofs.Laws.Trails.{trail-tag, trail-behind, request-before, answered-passed}
+use Rattle.requests.specs.Requests.{Request, passed, short, asks, requestOf, Trail, ends, goesOn, cutBy, cut, trail}
+use Rattle.responder.proofs.Laws.Apart.{writes-apart}
+use Rattle.responder.proofs.Laws.Fixed.{SameFixed, after-same}
+use Rattle.responder.proofs.Laws.Saids.{ShortSaid, said-short}
 use Rattle.responder.proofs.Laws.Written.{answered-word, written-length, written-behind, writes-before, cut-writes, reworded}
 use Rattle.responder.specs.Answers.{Said, silent, says, saidBy, afterBy, answers, after}
 use Rattle.responder.specs.Progress.{OnlyGroup}
 use Rattle.responder.specs.Reply.{written, writeAll}
 use Rattle.responder.specs.Serve.{bytesOf}
-
--- ---- answers of tags that stand apart are written in either order
-module _ (at size : ℕ) (x : List ℕ) (at′ size′ : ℕ) (x′ : List ℕ) (apart : at + tagHeader + size ≤ at′) where
-  pub answered-apart : (m : List ℕ) → answered at′ size′ x′ (answered at size x m) ≡ answered at size x (answered at′ size′ x′ m)
-  unfolding answered
-  answered-apart m =
-      let w = le 4 (0x8000_0000 + length x) in
-      let w′ = le 4 (0x8000_0000 + length x′) in
-      let v = take size x in
-      let v′ = take size′ x′ in
-      let l : length v ≤ size = simp length-take (omega arith) in
-      let m₁ = put (at + wordPlace) w m in
-      ap (put (at′ + tagHeader) v′) (put-apart (at + tagHeader) (at′ + wordPlace) v w′ m₁ (omega arith))
-      ∙ put-apart (at + tagHeader) (at′ + tagHeader) v v′ (put (at′ + wordPlace) w′ m₁) (omega arith)
-      ∙ ap (λ (y : List ℕ). put (at + tagHeader) v (put (at′ + tagHeader) v′ y)) (put-apart (at + wordPlace) (at′ + wordPlace) w w′ m (omega arith))
-      ∙ ap (put (at + tagHeader) v) (put-apart (at + wordPlace) (at′ + tagHeader) w v′ (put (at′ + wordPlace) w′ m) (omega arith))
-
-written-apart : (t u : Tag) (s v : Said) (m : List ℕ) → t .at + tagHeader + t .size ≤ u .at → written u v (written t s m) ≡ written t s (written u v m)
-written-apart t u silent v m h = refl
-written-apart t u (says x) silent m h = refl
-written-apart t u (says x) (says y) m h = answered-apart (t .at) (t .size) x (u .at) (u .size) y h m
-
--- what a tag says, and what is said behind it
-writes-apart : (t : Tag) (s : Said) (m : List ℕ) (size p : ℕ) (ts : List Tag) (ss : List Said) (e : Ending) → t .at + tagHeader + t .size ≤ p → Follows m size p ts e
-    → writeAll ts ss (written t s m) ≡ written t s (writeAll ts ss m)
-writes-apart t s m size p [] ss e l h = refl
-writes-apart t s m size p (u ∷ us) [] e l h = refl
-writes-apart t s m size p (u ∷ us) (v ∷ vs) e l h =
-    let f = found m size p (h .1) in
-    ap (writeAll us vs) (written-apart t u s v m (omega arith))
-    ∙ writes-apart t s (written u v m) size (h .0) us vs e (omega arith) (follows-same m (written u v m) size (h .0) us e (sym (written-behind u v m (h .0) (omega arith))) (h .2))
-
--- ---- what is read again
--- a trail reads only what stands from its place on
-trail-same : (m m′ : List ℕ) (size p : ℕ) (ts : List Tag) (e : Ending) → Follows m size p ts e → drop p m ≡ drop p m′ → trail m size p ≡ trail m′ size p
-unfolding trail
-trail-same m m′ size p [] e h d =
-    ap (λ (w : Walk). cut m (w .tags) (w .ending)) (follows-walk m size p [] e h)
-    ∙ ap (λ (w : Walk). cut m′ (w .tags) (w .ending)) (sym (follows-walk m′ size p [] e (follows-same m m′ size p [] e d h)))
-trail-same m m′ size p (t ∷ ts) e h d =
-    let f = found m size p (h .1) in
-    trail-tag m size p (h .1)
-    ∙ ap (λ (r : Request). cutBy r t (trail m size (h .0))) (request-same m m′ t (rw (f .at) d))
-    ∙ ap (cutBy (requestOf m′ t) t) (trail-same m m′ size (h .0) ts e (h .2) (drop-later p (h .0) m m′ (omega arith) d))
-    ∙ sym (trail-tag m′ size p (sym (step-same m m′ size p d) ∙ h .1))
-
-trail-behind : (m m′ : List ℕ) (size p : ℕ) → drop p m ≡ drop p m′ → trail m size p ≡ trail m′ size p
-trail-behind m m′ size p d = trail-same m m′ size p (walkFrom m size p .tags) (walkFrom m size p .ending) (follows m size p) d
-
--- a request reads only what stands before the tag's end
-request-before : (m m′ : List ℕ) (t : Tag) (q : ℕ) → t .at + tagHeader + t .size ≤ q → take q m ≡ take q m′ → requestOf m t ≡ requestOf m′ t
-unfolding requestOf
-request-before m m′ t q l e = rw (part-before q (t .at + tagHeader) (t .size) m m′ l e)
-
--- a tag that was answered is passed over
-answered-passed : (m : List ℕ) (t : Tag) → 0x8000_0000 ≤ t .word → requestOf m t ≡ passed
-unfolding requestOf requestBy
-answered-passed m t h = rw (le-leb 0x8000_0000 (t .word) h)
-
--- two records with the same facts and the same command line
-pub record SameFixed (b b₁ : Board) : Type 0 where
-  pub facts : b₁ .facts ≡ b .facts
-  pub line : b₁ .line ≡ b .line
-
-line-same : (b : Board) (r : Request) → afterBy b r .line ≡ b .line
-line-same b r = ap (λ (x : Board). x .line) (after-is b r) ∙ after-line b (askOf r)
-
-pub after-fixed : (b : Board) (rs : List Request) → SameFixed b (after b rs)
-after-fixed b [] = record { facts = refl; line = refl }
-after-fixed b (r ∷ rs) =
-    let h = after-fixed (afterBy b r) rs in
-    record { facts = h .facts ∙ after-facts b r; line = h .line ∙ line-same b r }
 
 -- what the second walk of m₁ on b₁ leaves is what one walk of m on b would have
 pub record Twice (g : Decision) (b b₁ : Board) (tr : Trail) (m : List ℕ) (tr₁ : Trail) (m₁ : List ℕ) : Type 0 where
@@ -192,10 +116,11 @@ module _ (g₀ g : Decision) (size : ℕ) where
       next : (r : Request) (s : Said) → Goal ts (afterBy b r) b₁ q (trail (written t s m) size q) (written t s m)
       next r s =
           let f = found m size p st in
-          let ef = after-facts b r in
+          let same = after-same b r in
+          let ef = same .facts in
           let n = written-length t s m in
           ih (written t s m) (afterBy b r) (follows-same m (written t s m) size q ts e (sym (written-behind t s m q (omega arith))) rest) (omega arith) (ap (λ (x : Facts). length (x .mac)) ef ∙ six)
-          (rw ef few) (record { facts = al .facts ∙ sym ef; line = al .line ∙ sym (line-same b r) })
+          (rw ef few) (record { facts = al .facts ∙ sym ef; line = al .line ∙ sym (same .line); display = al .display ∙ sym (same .display) })
 
       -- a tag outside the group
       outside : (r : Request) (a : List ℕ) → saidBy g₀ b r ≡ says a → saidBy g b r ≡ says a → Goal (t ∷ ts) b b₁ p (goesOn t r (trail m size q)) m
