@@ -6,7 +6,6 @@ pub mod Lister
 pub mod Reader
 pub mod Shown
 pub mod Found
-pub mod Met
 pub mod Paired
 pub mod Builder
 pub mod Built
