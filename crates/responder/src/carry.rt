@@ -49,53 +49,33 @@ pub fn carry_on(board: Board, msg: &mut [u8], progress: Progress) -> Carried
                 let progress = walked(outcome::SHORT_REQUEST, p, size, operation);
                 return Carried { progress, board: b };
             }
-            Ask::Pass => {
-                p = next;
-                continue;
-            }
-            Ask::Fixed(a, n) => {
-                put_pair(msg, tag.at, tag.size, a, n);
-                p = next;
-                continue;
-            }
+            Ask::Pass => {}
+            Ask::Fixed(a, n) => put_pair(msg, tag.at, tag.size, a, n),
             Ask::Fact(kind) => {
                 let answer = answer_fact(b.facts, kind);
                 put_answer(msg, tag.at, tag.size, answer, b.facts, &b.line);
-                p = next;
-                continue;
             }
             Ask::Power(kind, i, a, x) => {
                 let d = power_after(b.devices[i], kind, x);
                 b.devices[i] = d;
                 put_pair(msg, tag.at, tag.size, a, power_value(d, kind));
-                p = next;
-                continue;
             }
             Ask::Clock(kind, i, a, x) => {
                 let c = clock_after(b.clocks[i], kind, x);
                 b.clocks[i] = c;
                 put_pair(msg, tag.at, tag.size, a, clock_value(c, kind));
-                p = next;
-                continue;
             }
             Ask::Voltage(kind, i, a, x) => {
                 let v = voltage_after(b.voltages[i], kind, x);
                 b.voltages[i] = v;
                 put_pair(msg, tag.at, tag.size, a, voltage_value(v, kind));
-                p = next;
-                continue;
             }
             Ask::Temperature(kind, a) => {
                 let n = temperature_value(b.temperature, kind, a);
                 put_pair(msg, tag.at, tag.size, a, n);
-                p = next;
-                continue;
             }
-            Ask::Frame(kind, a, x) => {
-                operation = note(operation, kind, a, x);
-                p = next;
-                continue;
-            }
+            Ask::Frame(kind, a, x) => operation = note(operation, kind, a, x),
         }
+        p = next;
     }
 }

@@ -59,22 +59,16 @@ pub fn answer_group(board: Board, msg: &mut [u8], size: usize, group: Decision)
         let Step::Tag(tag, next) = st else {
             return;
         };
-        if tag.word >= 0x8000_0000 {
-            p = next;
-            continue;
-        }
-        let told = answer_of(group, tag.id);
-        match told {
-            Told::Says(answer) => {
-                put_answer(msg, tag.at, tag.size, answer, board.facts, &board.line);
-                p = next;
-                continue;
-            }
-            Told::Nothing => {
-                p = next;
-                continue;
+        if tag.word < 0x8000_0000 {
+            let told = answer_of(group, tag.id);
+            match told {
+                Told::Says(answer) => {
+                    put_answer(msg, tag.at, tag.size, answer, board.facts, &board.line);
+                }
+                Told::Nothing => {}
             }
         }
+        p = next;
     }
 }
 

@@ -50,14 +50,10 @@ pub fn lead(msg: &[u8], size: usize, board: Board) -> Progress
                     operation,
                 };
             }
-            GroupAsk::Pass => {
-                p = pass_run(msg, size, next, tag.size);
-                continue;
-            }
+            GroupAsk::Pass => p = pass_run(msg, size, next, tag.size),
             GroupAsk::Frame(kind, a, x) => {
                 operation = note(operation, kind, a, x);
                 p = next;
-                continue;
             }
         }
     }

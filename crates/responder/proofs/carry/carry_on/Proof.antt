@@ -55,33 +55,11 @@ returns-2 c =
 enum-told-2 : tie.Need-enum-told-2 Inv-loop μ-loop
 enum-told-2 c = search needs
 
-loop-less : tie.Need-loop-less Inv-loop μ-loop
-loop-less c = search serve-less
-
-loop-again : tie.Need-loop-again Inv-loop μ-loop
-loop-again c =
-    let at-ask = c .before .before in
-    let at-tag = at-ask .before .before .before in
-    let at-step = at-tag .before .before in
-    let inv = at-step .before .before .loop .inv in
-    (inv .0, serve-pass _ _ _ _ _ _ _ _ (inv .1) (at-step .step-at .ensures) (at-tag .st .given .1) (at-ask .ask-at .ensures) (c .enum-told2 .given .1))
-
 enum-known-ask : tie.Need-enum-known-ask Inv-loop μ-loop
 enum-known-ask c = search needs
 
 put-pair-requires : tie.Need-put-pair-requires Inv-loop μ-loop
 put-pair-requires c κs = search serve-pair
-
-loop-less-2 : tie.Need-loop-less-2 Inv-loop μ-loop
-loop-less-2 c = search serve-less
-
-loop-again-2 : tie.Need-loop-again-2 Inv-loop μ-loop
-loop-again-2 c =
-    let at-ask = c .before .before .before .before .before .before .before in
-    let at-tag = at-ask .before .before .before in
-    let at-step = at-tag .before .before in
-    let inv = at-step .before .before .loop .inv in
-    (inv .0, serve-fixed _ _ _ _ _ _ _ _ (inv .1) (at-step .step-at .ensures) (at-tag .st .given .1) (at-ask .ask-at .ensures) (c .before .before .put-pair .ensures) (c .before .before .before .before .before .ask .given .1))
 
 enum-known-ask-2 : tie.Need-enum-known-ask-2 Inv-loop μ-loop
 enum-known-ask-2 c = search needs
@@ -91,17 +69,6 @@ answer-fact-requires c κs = search needs
 
 put-answer-requires : tie.Need-put-answer-requires Inv-loop μ-loop
 put-answer-requires c κs = search serve-fits
-
-loop-less-3 : tie.Need-loop-less-3 Inv-loop μ-loop
-loop-less-3 c = search serve-less
-
-loop-again-3 : tie.Need-loop-again-3 Inv-loop μ-loop
-loop-again-3 c =
-    let at-ask = c .before .before .before .before .before .before .before .before .before .before .before .before .before in
-    let at-tag = at-ask .before .before .before in
-    let at-step = at-tag .before .before in
-    let inv = at-step .before .before .loop .inv in
-    (inv .0, serve-fact _ _ _ _ _ _ _ _ (inv .1) (at-step .step-at .ensures) (at-tag .st .given .1) (at-ask .ask-at .ensures) (c .before .before .put-answer .ensures) (c .before .before .before .before .before .before .before .before .before .before .before .ask2 .given .1) (c .before .before .before .before .before .before .before .before .answer-fact .ensures))
 
 enum-known-ask-3 : tie.Need-enum-known-ask-3 Inv-loop μ-loop
 enum-known-ask-3 c = search needs
@@ -127,17 +94,6 @@ power-value-requires c κs = search needs
 put-pair-requires-2 : tie.Need-put-pair-requires-2 Inv-loop μ-loop
 put-pair-requires-2 c κs = search serve-pair
 
-loop-less-4 : tie.Need-loop-less-4 Inv-loop μ-loop
-loop-less-4 c = search serve-less
-
-loop-again-4 : tie.Need-loop-again-4 Inv-loop μ-loop
-loop-again-4 c =
-    let at-ask = c .before .before .before .before .before .before .before .before .before .before in
-    let at-tag = at-ask .before .before .before in
-    let at-step = at-tag .before .before in
-    let inv = at-step .before .before .loop .inv in
-    (inv .0, serve-power _ _ _ _ _ _ _ _ (inv .1) (at-step .step-at .ensures) (at-tag .st .given .1) (at-ask .ask-at .ensures) (c .before .before .put-pair2 .ensures) (c .before .before .before .before .before .before .before .before .ask3 .given .1) (c .before .before .before .before .before .power-after .ensures) (c .before .before .before .power-value .ensures))
-
 enum-known-ask-4 : tie.Need-enum-known-ask-4 Inv-loop μ-loop
 enum-known-ask-4 c = search needs
 
@@ -161,17 +117,6 @@ clock-value-requires c κs = search needs
 
 put-pair-requires-3 : tie.Need-put-pair-requires-3 Inv-loop μ-loop
 put-pair-requires-3 c κs = search serve-pair
-
-loop-less-5 : tie.Need-loop-less-5 Inv-loop μ-loop
-loop-less-5 c = search serve-less
-
-loop-again-5 : tie.Need-loop-again-5 Inv-loop μ-loop
-loop-again-5 c =
-    let at-ask = c .before .before .before .before .before .before .before .before .before .before in
-    let at-tag = at-ask .before .before .before in
-    let at-step = at-tag .before .before in
-    let inv = at-step .before .before .loop .inv in
-    (inv .0, serve-clock _ _ _ _ _ _ _ _ (inv .1) (at-step .step-at .ensures) (at-tag .st .given .1) (at-ask .ask-at .ensures) (c .before .before .put-pair3 .ensures) (c .before .before .before .before .before .before .before .before .ask4 .given .1) (c .before .before .before .before .before .clock-after .ensures) (c .before .before .before .clock-value .ensures))
 
 enum-known-ask-5 : tie.Need-enum-known-ask-5 Inv-loop μ-loop
 enum-known-ask-5 c = search needs
@@ -197,6 +142,76 @@ voltage-value-requires c κs = search needs
 put-pair-requires-4 : tie.Need-put-pair-requires-4 Inv-loop μ-loop
 put-pair-requires-4 c κs = search serve-pair
 
+enum-known-ask-6 : tie.Need-enum-known-ask-6 Inv-loop μ-loop
+enum-known-ask-6 c = search needs
+
+temperature-value-requires : tie.Need-temperature-value-requires Inv-loop μ-loop
+temperature-value-requires c κs = search needs
+
+put-pair-requires-5 : tie.Need-put-pair-requires-5 Inv-loop μ-loop
+put-pair-requires-5 c κs = search serve-pair
+
+enum-known-ask-7 : tie.Need-enum-known-ask-7 Inv-loop μ-loop
+enum-known-ask-7 c = search needs
+
+note-requires : tie.Need-note-requires Inv-loop μ-loop
+note-requires c κs = search needs
+
+loop-less : tie.Need-loop-less Inv-loop μ-loop
+loop-less c = search serve-less
+
+loop-again : tie.Need-loop-again Inv-loop μ-loop
+loop-again c =
+    let at-ask = c .before .before in
+    let at-tag = at-ask .before .before .before in
+    let at-step = at-tag .before .before in
+    let inv = at-step .before .before .loop .inv in
+    (inv .0, serve-pass _ _ _ _ _ _ _ _ (inv .1) (at-step .step-at .ensures) (at-tag .st .given .1) (at-ask .ask-at .ensures) (c .enum-told2 .given .1))
+
+loop-less-2 : tie.Need-loop-less-2 Inv-loop μ-loop
+loop-less-2 c = search serve-less
+
+loop-again-2 : tie.Need-loop-again-2 Inv-loop μ-loop
+loop-again-2 c =
+    let at-ask = c .before .before .before .before .before .before .before in
+    let at-tag = at-ask .before .before .before in
+    let at-step = at-tag .before .before in
+    let inv = at-step .before .before .loop .inv in
+    (inv .0, serve-fixed _ _ _ _ _ _ _ _ (inv .1) (at-step .step-at .ensures) (at-tag .st .given .1) (at-ask .ask-at .ensures) (c .before .before .put-pair .ensures) (c .before .before .before .before .before .ask .given .1))
+
+loop-less-3 : tie.Need-loop-less-3 Inv-loop μ-loop
+loop-less-3 c = search serve-less
+
+loop-again-3 : tie.Need-loop-again-3 Inv-loop μ-loop
+loop-again-3 c =
+    let at-ask = c .before .before .before .before .before .before .before .before .before .before .before .before .before in
+    let at-tag = at-ask .before .before .before in
+    let at-step = at-tag .before .before in
+    let inv = at-step .before .before .loop .inv in
+    (inv .0, serve-fact _ _ _ _ _ _ _ _ (inv .1) (at-step .step-at .ensures) (at-tag .st .given .1) (at-ask .ask-at .ensures) (c .before .before .put-answer .ensures) (c .before .before .before .before .before .before .before .before .before .before .before .ask2 .given .1) (c .before .before .before .before .before .before .before .before .answer-fact .ensures))
+
+loop-less-4 : tie.Need-loop-less-4 Inv-loop μ-loop
+loop-less-4 c = search serve-less
+
+loop-again-4 : tie.Need-loop-again-4 Inv-loop μ-loop
+loop-again-4 c =
+    let at-ask = c .before .before .before .before .before .before .before .before .before .before in
+    let at-tag = at-ask .before .before .before in
+    let at-step = at-tag .before .before in
+    let inv = at-step .before .before .loop .inv in
+    (inv .0, serve-power _ _ _ _ _ _ _ _ (inv .1) (at-step .step-at .ensures) (at-tag .st .given .1) (at-ask .ask-at .ensures) (c .before .before .put-pair2 .ensures) (c .before .before .before .before .before .before .before .before .ask3 .given .1) (c .before .before .before .before .before .power-after .ensures) (c .before .before .before .power-value .ensures))
+
+loop-less-5 : tie.Need-loop-less-5 Inv-loop μ-loop
+loop-less-5 c = search serve-less
+
+loop-again-5 : tie.Need-loop-again-5 Inv-loop μ-loop
+loop-again-5 c =
+    let at-ask = c .before .before .before .before .before .before .before .before .before .before in
+    let at-tag = at-ask .before .before .before in
+    let at-step = at-tag .before .before in
+    let inv = at-step .before .before .loop .inv in
+    (inv .0, serve-clock _ _ _ _ _ _ _ _ (inv .1) (at-step .step-at .ensures) (at-tag .st .given .1) (at-ask .ask-at .ensures) (c .before .before .put-pair3 .ensures) (c .before .before .before .before .before .before .before .before .ask4 .given .1) (c .before .before .before .before .before .clock-after .ensures) (c .before .before .before .clock-value .ensures))
+
 loop-less-6 : tie.Need-loop-less-6 Inv-loop μ-loop
 loop-less-6 c = search serve-less
 
@@ -208,15 +223,6 @@ loop-again-6 c =
     let inv = at-step .before .before .loop .inv in
     (inv .0, serve-voltage _ _ _ _ _ _ _ _ (inv .1) (at-step .step-at .ensures) (at-tag .st .given .1) (at-ask .ask-at .ensures) (c .before .before .put-pair4 .ensures) (c .before .before .before .before .before .before .before .before .ask5 .given .1) (c .before .before .before .before .before .voltage-after .ensures) (c .before .before .before .voltage-value .ensures))
 
-enum-known-ask-6 : tie.Need-enum-known-ask-6 Inv-loop μ-loop
-enum-known-ask-6 c = search needs
-
-temperature-value-requires : tie.Need-temperature-value-requires Inv-loop μ-loop
-temperature-value-requires c κs = search needs
-
-put-pair-requires-5 : tie.Need-put-pair-requires-5 Inv-loop μ-loop
-put-pair-requires-5 c κs = search serve-pair
-
 loop-less-7 : tie.Need-loop-less-7 Inv-loop μ-loop
 loop-less-7 c = search serve-less
 
@@ -227,12 +233,6 @@ loop-again-7 c =
     let at-step = at-tag .before .before in
     let inv = at-step .before .before .loop .inv in
     (inv .0, serve-temperature _ _ _ _ _ _ _ _ (inv .1) (at-step .step-at .ensures) (at-tag .st .given .1) (at-ask .ask-at .ensures) (c .before .before .put-pair5 .ensures) (c .before .before .before .before .before .before .before .ask6 .given .1) (c .before .before .before .before .temperature-value .ensures))
-
-enum-known-ask-7 : tie.Need-enum-known-ask-7 Inv-loop μ-loop
-enum-known-ask-7 c = search needs
-
-note-requires : tie.Need-note-requires Inv-loop μ-loop
-note-requires c κs = search needs
 
 loop-less-8 : tie.Need-loop-less-8 Inv-loop μ-loop
 loop-less-8 c = search serve-less
@@ -264,17 +264,11 @@ carry-on-spec =
     same-length-2
     returns-2
     enum-told-2
-    loop-less
-    loop-again
     enum-known-ask
     put-pair-requires
-    loop-less-2
-    loop-again-2
     enum-known-ask-2
     answer-fact-requires
     put-answer-requires
-    loop-less-3
-    loop-again-3
     enum-known-ask-3
     mul-power-after
     element-copy-out-power-after
@@ -283,8 +277,6 @@ carry-on-spec =
     element-set-from-d
     power-value-requires
     put-pair-requires-2
-    loop-less-4
-    loop-again-4
     enum-known-ask-4
     mul-clock-after
     element-copy-out-clock-after
@@ -293,8 +285,6 @@ carry-on-spec =
     element-set-from-c
     clock-value-requires
     put-pair-requires-3
-    loop-less-5
-    loop-again-5
     enum-known-ask-5
     mul-voltage-after
     element-copy-out-voltage-after
@@ -303,14 +293,24 @@ carry-on-spec =
     element-set-from-v
     voltage-value-requires
     put-pair-requires-4
-    loop-less-6
-    loop-again-6
     enum-known-ask-6
     temperature-value-requires
     put-pair-requires-5
-    loop-less-7
-    loop-again-7
     enum-known-ask-7
     note-requires
+    loop-less
+    loop-again
+    loop-less-2
+    loop-again-2
+    loop-less-3
+    loop-again-3
+    loop-less-4
+    loop-again-4
+    loop-less-5
+    loop-again-5
+    loop-less-6
+    loop-again-6
+    loop-less-7
+    loop-again-7
     loop-less-8
     loop-again-8)

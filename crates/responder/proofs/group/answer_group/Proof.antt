@@ -32,12 +32,6 @@ same-length c = search needs
 returns : tie.Need-returns Inv-loop μ-loop
 returns c = search answering-stop
 
-loop-less : tie.Need-loop-less Inv-loop μ-loop
-loop-less c = search answering-less
-
-loop-again : tie.Need-loop-again Inv-loop μ-loop
-loop-again c = search answering-past
-
 answer-of-requires : tie.Need-answer-of-requires Inv-loop μ-loop
 answer-of-requires c κs = search needs
 
@@ -47,20 +41,35 @@ enum-known-told c = search needs
 put-answer-requires : tie.Need-put-answer-requires Inv-loop μ-loop
 put-answer-requires c κs = search answering-fits
 
+enum-told : tie.Need-enum-told Inv-loop μ-loop
+enum-told c = search needs
+
+loop-less : tie.Need-loop-less Inv-loop μ-loop
+loop-less c = search answering-less
+
+loop-again : tie.Need-loop-again Inv-loop μ-loop
+loop-again c =
+    let at-told = c .before .before .before .before .before .before .before .before .before in
+    let at-answer = at-told .before .before in
+    let at-tag = at-answer .before .before .before .before in
+    let at-step = at-tag .before .before in
+    answering-says _ _ _ _ _ _ (at-step .before .before .loop .inv) (at-step .step-at .ensures) (at-tag .st .given .1) (at-answer .before .if1 .taken) (at-answer .answer-of .ensures) (at-told .told .given .1) (c .before .before .put-answer .ensures)
+
 loop-less-2 : tie.Need-loop-less-2 Inv-loop μ-loop
 loop-less-2 c = search answering-less
 
 loop-again-2 : tie.Need-loop-again-2 Inv-loop μ-loop
-loop-again-2 c = answering-says _ _ _ _ _ _ (c .before .before .before .before .before .before .before .before .before .before .before .before .before .before .before .before .before .before .before .loop .inv) (c .before .before .before .before .before .before .before .before .before .before .before .before .before .before .before .before .before .step-at .ensures) (c .before .before .before .before .before .before .before .before .before .before .before .before .before .before .before .st .given .1) (c .before .before .before .before .before .before .before .before .before .before .before .before .if1 .left) (c .before .before .before .before .before .before .before .before .before .before .before .answer-of .ensures) (c .before .before .before .before .before .before .before .before .before .told .given .1) (c .before .before .put-answer .ensures)
-
-enum-told : tie.Need-enum-told Inv-loop μ-loop
-enum-told c = search needs
+loop-again-2 c =
+    let at-answer = c .before .before in
+    let at-tag = at-answer .before .before .before .before in
+    let at-step = at-tag .before .before in
+    answering-none _ _ _ _ _ _ (at-step .before .before .loop .inv) (at-step .step-at .ensures) (at-tag .st .given .1) (at-answer .before .if1 .taken) (at-answer .answer-of .ensures) (c .enum-told .given .1)
 
 loop-less-3 : tie.Need-loop-less-3 Inv-loop μ-loop
 loop-less-3 c = search answering-less
 
 loop-again-3 : tie.Need-loop-again-3 Inv-loop μ-loop
-loop-again-3 c = answering-none _ _ _ _ _ _ (c .before .before .before .before .before .before .before .before .before .before .loop .inv) (c .before .before .before .before .before .before .before .before .step-at .ensures) (c .before .before .before .before .before .before .st .given .1) (c .before .before .before .if1 .left) (c .before .before .answer-of .ensures) (c .enum-told .given .1)
+loop-again-3 c = search answering-past
 
 pub answer-group-spec : {M : Type 1} → statement M
 answer-group-spec =
@@ -73,13 +82,13 @@ answer-group-spec =
     enum-known-st
     same-length
     returns
-    loop-less
-    loop-again
     answer-of-requires
     enum-known-told
     put-answer-requires
+    enum-told
+    loop-less
+    loop-again
     loop-less-2
     loop-again-2
-    enum-told
     loop-less-3
     loop-again-3)
