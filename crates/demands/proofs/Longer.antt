@@ -1,5 +1,5 @@
 -- Two faultless requests alike but for longer value buffers in the second.
-use mathlib.Core.Bool.{Bool, true, false}
+use mathlib.Core.Bool.{Bool, true, false, true≢false}
 use mathlib.Core.List.{List, map}
 use mathlib.Core.Logic.{inl}
 use mathlib.Core.Path.{_≡_, refl, sym, ap, _∙_}
@@ -62,7 +62,7 @@ judged-alike t u wanted p = go (isAnswered t) (isAnswered u) (ltb (stored t) wan
     go : (a c f : Bool) → a ≡ c → RefusedAlike (judgedBy a f t wanted) (judgedBy c (ltb (stored u) wanted) u wanted)
     go true c true e = record { missing = λ z. absurd (omega arith); passed = λ z. absurd (omega arith) }
     go true c false e = record { missing = λ z. absurd (omega arith); passed = λ z. absurd (omega arith) }
-    go false true f e = let q : _≡_ {A = ℕ} 0 1 = cc in absurd (omega arith)
+    go false true f e = absurd (true≢false cc)
     go false false f e = record { missing = λ z. absurd (omega arith); passed = λ z. refl }
 
 ends-alike : (e e′ : Ending) → e .outcome ≡ done → e′ .outcome ≡ done → RefusedAlike (unmet e) (unmet e′)

@@ -1,9 +1,9 @@
 -- The premises of `ReadingBack` and `Longer` can be met: a MAC address with a value of 4 bytes against one of 8, a tag that is passed over, and a frame buffer operation.
+use mathlib.Core.Bool.{true≢false}
 use mathlib.Core.List.{List, [], _∷_}
 use mathlib.Core.Logic.{inl}
 use mathlib.Core.Path.{_≡_, refl, sym, _∙_, subst}
 use Prim.Native.Nat.{ℕ}
-use native.Mathlib.Omega.{arith}
 use lib.Count.{onesIn}
 use lib.Dec.{lit≤}
 use Rattle.words.specs.Numbers.{numberAt}
@@ -65,8 +65,7 @@ known m m′ t t′ k n r e k′ n′ r′ w =
 unknown : (m m′ : List ℕ) (t t′ : Tag) → rowOf (t .id) ≡ Row.Unknown → SameRequest m m′ t t′
 unknown m m′ t t′ r k n r′ w =
     let q : Row.Unknown ≡ Row.Known k n = sym r ∙ r′ in
-    let z : _≡_ {A = ℕ} 0 1 = cc in
-    absurd (omega arith)
+    absurd (true≢false cc)
 
 abbrev tag : (at id size : ℕ) → Tag
 tag at id size = record { at = at; id = id; size = size; word = 0 }

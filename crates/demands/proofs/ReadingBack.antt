@@ -1,5 +1,5 @@
 -- The reader shows what the responder stored.
-use mathlib.Core.Bool.{Bool, true, false, cond}
+use mathlib.Core.Bool.{Bool, true, false, cond, true≢false}
 use mathlib.Core.List.{List, [], _∷_}
 use mathlib.Core.Path.{_≡_, refl, sym, ap, _∙_}
 use Prim.Native.Nat.{ℕ, zero, suc, _+_, _^_, _≤_, _<_, min}
@@ -35,8 +35,8 @@ use Rattle.demands.specs.Walked.{tagAfter, tagsAfter, walkOf, Six}
 
 -- ---- each answer is short
 short-at : (ss : List Said) (i : ℕ) {answer : List ℕ} → Short ss → getD ss i silent ≡ says answer → length answer < 2 ^ 31
-short-at [] i h e = let z : _≡_ {A = ℕ} 0 1 = cc in absurd (omega arith)
-short-at (silent ∷ ss) zero h e = let z : _≡_ {A = ℕ} 0 1 = cc in absurd (omega arith)
+short-at [] i h e = absurd (true≢false cc)
+short-at (silent ∷ ss) zero h e = absurd (true≢false cc)
 short-at (silent ∷ ss) (suc i) h e = short-at ss i h e
 short-at (says x ∷ ss) zero {answer} h e = let is : x ≡ answer = cc in rw is at (h .0)
 short-at (says x ∷ ss) (suc i) h e = short-at ss i (h .1) e

@@ -1,5 +1,5 @@
 -- Requests that are alike ask for the same.
-use mathlib.Core.Bool.{Bool, true, false, cond}
+use mathlib.Core.Bool.{Bool, true, false, cond, true≢false}
 use mathlib.Core.List.{List, [], _∷_, map}
 use mathlib.Core.Path.{_≡_, refl, sym, ap, _∙_}
 use Prim.Native.Nat.{ℕ, zero, suc, _≤_, _<_}
@@ -42,9 +42,9 @@ request-pair m m′ t t′ ei ew same n n′ =
 -- ---- a trail without a fault has no short request
 module _ (m : List ℕ) (t : Tag) (rest : Trail) where
   by-not-short : (r : Request) → cutBy r t rest .ending .outcome ≡ done → r ≡ short → ⊥
-  by-not-short passed e z = let q : _≡_ {A = ℕ} 0 1 = cc in omega arith
+  by-not-short passed e z = true≢false cc
   by-not-short short e z = omega arith
-  by-not-short (asks k bytes) e z = let q : _≡_ {A = ℕ} 0 1 = cc in omega arith
+  by-not-short (asks k bytes) e z = true≢false cc
 
   by-ending : (r : Request) → cutBy r t rest .ending .outcome ≡ done → rest .ending .outcome ≡ done
   by-ending passed e = e

@@ -1,5 +1,5 @@
 -- What the reader finds in a message into which answers were written.
-use mathlib.Core.Bool.{Bool, true, false}
+use mathlib.Core.Bool.{Bool, true, false, true≢false}
 use mathlib.Core.List.{List, [], _∷_}
 use mathlib.Core.Path.{_≡_, refl, sym, ap, _∙_, subst}
 use Prim.Native.Nat.{ℕ, zero, suc, _+_, _^_, _≤_, _<_, min}
@@ -36,7 +36,7 @@ kept-nth false t u us vs x h = h
 
 kept-first : (c : Bool) (u : Tag) (vs : List Tag) → c ≡ true → Nth 0 (keptTag c u vs) u
 kept-first true u vs e = refl
-kept-first false u vs e = let z : _≡_ {A = ℕ} 0 1 = cc in absurd (omega arith)
+kept-first false u vs e = absurd (true≢false cc)
 
 pub nth-at : (id : ℕ) (ts : List Tag) (ss : List Said) (i : ℕ) → i < length ts → getD ts i noTag .id ≡ id
     → Nth (length (withId id (take i ts))) (withId id (tagsAfter ts ss)) (tagAfter (getD ts i noTag) (getD ss i silent))
@@ -73,7 +73,7 @@ module _ (t : Tag) (answer : List ℕ) (short : length answer < 2 ^ 31) where
 
 -- ---- the stored bytes
 silent-says : {answer : List ℕ} {A : Type 0} → silent ≡ says answer → A
-silent-says e = let z : _≡_ {A = ℕ} 0 1 = cc in absurd (omega arith)
+silent-says e = absurd (true≢false cc)
 
 pub value-written : (m : List ℕ) (size p : ℕ) (ts : List Tag) (ss : List Said) (e : Ending) → Follows m size p ts e → size ≤ length m → (i : ℕ) → i < length ts → {answer : List ℕ} → getD ss i silent ≡ says answer
     → (k : ℕ) → k ≤ min (length answer) (getD ts i noTag .size) → take k (drop (getD ts i noTag .at + tagHeader) (writeAll ts ss m)) ≡ take k answer

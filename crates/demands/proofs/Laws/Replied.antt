@@ -1,5 +1,5 @@
 -- The cases of a reply: refused and untouched, or served.
-use mathlib.Core.Bool.{Bool, true, false, cond}
+use mathlib.Core.Bool.{Bool, true, false, cond, true≢false}
 use mathlib.Core.List.{List}
 use mathlib.Core.Logic.{_⊎_, inl, inr}
 use mathlib.Core.Path.{_≡_, refl, sym, _∙_}
@@ -44,7 +44,7 @@ opened-number m {n} e = go (ltb (length m) smallest) (goodSize (word m 0) (lengt
   where
     go : (few good : Bool) → cond few (Opened.Refused tooFewLent) (cond good (Opened.Good (record { size = word m 0 })) (Opened.Refused badSize)) ≡ Opened.Refused n → (n ≡ tooFewLent) ⊎ (n ≡ badSize)
     go true good q = inl (cc)
-    go false true q = let z : _≡_ {A = ℕ} 0 1 = cc in absurd (omega arith)
+    go false true q = absurd (true≢false cc)
     go false false q = inr (cc)
 
 opened-sized : (m : List ℕ) {message : Message} → opened m ≡ Opened.Good message → GoodSize (word m 0) (length m)
@@ -53,9 +53,9 @@ opened-sized m {message} e = go (ltb (length m) smallest) (goodSize (word m 0) (
   where
     go : (few good : Bool) → goodSize (word m 0) (length m) ≡ good → cond few (Opened.Refused tooFewLent) (cond good (Opened.Good (record { size = word m 0 })) (Opened.Refused badSize)) ≡ Opened.Good message
         → GoodSize (word m 0) (length m)
-    go true good g q = let z : _≡_ {A = ℕ} 0 1 = cc in absurd (omega arith)
+    go true good g q = absurd (true≢false cc)
     go false true g q = good-is (word m 0) (length m) g
-    go false false g q = let z : _≡_ {A = ℕ} 0 1 = cc in absurd (omega arith)
+    go false false g q = absurd (true≢false cc)
 
 widen : (n : ℕ) → (n ≡ tooFewLent) ⊎ (n ≡ badSize) → Refusal n
 widen n (inl z) = inl z

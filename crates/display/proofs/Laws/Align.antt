@@ -1,5 +1,5 @@
 -- Laws of alignments: the count of ones, and the lowest multiple.
-use mathlib.Core.Bool.{true, false}
+use mathlib.Core.Bool.{true, false≢true}
 use mathlib.Core.Path.{_≡_, refl, sym, ap, _∙_, subst}
 use Prim.Native.Nat.{ℕ, zero, suc, _+_, _-_, _*_, _/_, _%_, _^_, _≤_, _<_}
 use native.Mathlib.Nat.{suc-mul, le-of-suc-le-suc, div-lt-iff-lt-mul, div-add-mod', mod-lt, div-mul-le-self, mul-le-mul-right, zero-lt-suc}
@@ -29,7 +29,7 @@ one-bit-ones a h = sym (ap (λ (x : ℕ). eqb x 1) (ones-in 32 a h))
 
 pub one-bit-least : (a : ℕ) → oneBit a ≡ true → 0 < a
 unfolding oneBit
-one-bit-least zero e = absurd (let z : false ≡ true = e in let y : _≡_ {A = ℕ} 0 1 = cc in omega arith)
+one-bit-least zero e = absurd (false≢true e)
 one-bit-least (suc a) e = zero-lt-suc a
 
 module _ (a b : ℕ) (p : 0 < a) where

@@ -1,5 +1,5 @@
 -- A valid display stays valid under every operation.
-use mathlib.Core.Bool.{Bool, true, false, cond, _&&_}
+use mathlib.Core.Bool.{Bool, true, false, cond, _&&_, true≢false}
 use mathlib.Core.Logic.{_⊎_, inl, inr}
 use mathlib.Core.Path.{_≡_, refl, sym, ap, _∙_}
 use Prim.Native.Nat.{ℕ, _+_, _<_}
@@ -71,7 +71,7 @@ module _ (d : Display) (o : Operation) where
   tests-same t = ap (λ (r : Decision). r .display) (sym (decided-by d o t refl)) ∙ tested-same (o .others) (supported (d .region .size) (o .proposal)) refl
 
   pub refused-same : accepted d o ≡ false → decided d o .display ≡ d
-  refused-same e = decided-cases d o (λ (r : Decision). r .display ≡ d) refl refl (λ s. refl) (λ a. absurd (let z : true ≡ false = sym a ∙ e in let y : _≡_ {A = ℕ} 0 1 = cc in omega arith))
+  refused-same e = decided-cases d o (λ (r : Decision). r .display ≡ d) refl refl (λ s. refl) (λ a. absurd (true≢false (sym a ∙ e)))
 
 -- the operation with no tags
 pub unasked-shows : (d : Display) → decided d (unasked (d .settings)) ≡ showing (d .settings) d

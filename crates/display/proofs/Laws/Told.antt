@@ -1,10 +1,9 @@
 -- What a tag of any id is told.
-use mathlib.Core.Bool.{Bool, true, false, cond, and-eq-true-iff}
+use mathlib.Core.Bool.{Bool, true, false, cond, and-eq-true-iff, true≢false}
 use mathlib.Core.List.{List, [], _∷_, _++_}
 use mathlib.Core.Logic.{_⊎_, ⊎-elim}
 use mathlib.Core.Path.{_≡_, refl, sym, ap, _∙_}
 use Prim.Native.Nat.{ℕ}
-use native.Mathlib.Omega.{arith}
 use lib.Dec.{eqb}
 use Rattle.words.specs.All.{all}
 use Rattle.table.proofs.Laws.Find.{Absent, unknown}
@@ -38,7 +37,7 @@ told-outside d (Kind.Power t) n e = refl
 told-outside d (Kind.Clock t) n e = refl
 told-outside d (Kind.Voltage t) n e = refl
 told-outside d (Kind.Temperature t) n e = refl
-told-outside d (Kind.Frame t) n e = let z : _≡_ {A = ℕ} 0 1 = cc in absurd (omega arith)
+told-outside d (Kind.Frame t) n e = absurd (true≢false cc)
 
 told-behind : (d : Decision) (id : ℕ) (es fs : List Entry) → all (λ (e : Entry). isOutside (e .kind)) es ≡ true → toldBy d (find id fs) ≡ Told.Nothing → toldBy d (find id (es ++ fs)) ≡ Told.Nothing
 told-behind d id [] fs a h = h

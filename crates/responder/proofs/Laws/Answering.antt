@@ -1,9 +1,8 @@
 -- The walk that answers the group: every request left is one of the group.
-use mathlib.Core.Bool.{Bool, true, false, cond}
+use mathlib.Core.Bool.{Bool, true, false, cond, true≢false}
 use mathlib.Core.List.{List, [], _∷_}
 use mathlib.Core.Path.{_≡_, refl, sym, ap, _∙_, subst}
 use Prim.Native.Nat.{ℕ, _-_, _≤_, _<_}
-use native.Mathlib.Omega.{arith}
 use borrow.Author.Tests.{le-leb, lt-leb}
 use denote.Enum.Declared.{tagOf}
 use types.Run.{OneOf}
@@ -74,8 +73,7 @@ module _ (g : Decision) (m₀ : List ℕ) (size : ℕ) (b : Board) (m : List ℕ
     not-short : requestOf m t ≡ short → ⊥
     not-short er =
         let e : shortRequest ≡ done = sym (ap (λ (x : Trail). x .ending .outcome) (here er)) ∙ ap (λ (x : Ending). x .outcome) (h .ahead .ending) ∙ h .faultless in
-        let z : _≡_ {A = ℕ} 0 1 = cc in
-        omega arith
+        true≢false cc
 
     only-here : {r : Request} → requestOf m t ≡ r → OnlyGroup (cutBy r t (trail m₀ size next) .requests)
     only-here er = subst (λ (x : Trail). OnlyGroup (x .requests)) (here er) (h .only)
@@ -126,7 +124,7 @@ module _ (g : Decision) (m₀ : List ℕ) (size : ℕ) (b : Board) (m : List ℕ
         where
           go : (row : Row) → rowOf (t .id) ≡ row → Told.Nothing ≡ toldBy g row → Answering g m₀ size b m next
           go Row.Unknown er q = passed-on (request-is er)
-          go (Row.Known (Kind.Frame k) n) er q = let z : _≡_ {A = ℕ} 0 1 = cc in absurd (omega arith)
+          go (Row.Known (Kind.Frame k) n) er q = absurd (true≢false cc)
           go (Row.Known (Kind.Fact k) n) er q = absurd (outside er (λ z. z))
           go (Row.Known (Kind.Power k) n) er q = absurd (outside er (λ z. z))
           go (Row.Known (Kind.Clock k) n) er q = absurd (outside er (λ z. z))
@@ -150,10 +148,10 @@ module _ (g : Decision) (m₀ : List ℕ) (size : ℕ) (b : Board) (m : List ℕ
               }
 
           go : (row : Row) → rowOf (t .id) ≡ row → Told.Says y ≡ toldBy g row → Answering g m₀ size b m′ next
-          go Row.Unknown er q = let z : _≡_ {A = ℕ} 0 1 = cc in absurd (omega arith)
+          go Row.Unknown er q = absurd (true≢false cc)
           go (Row.Known (Kind.Frame k) n) er q = let ey : y ≡ groupAnswer g k = cc in frame k n er ey
-          go (Row.Known (Kind.Fact k) n) er q = let z : _≡_ {A = ℕ} 0 1 = cc in absurd (omega arith)
-          go (Row.Known (Kind.Power k) n) er q = let z : _≡_ {A = ℕ} 0 1 = cc in absurd (omega arith)
-          go (Row.Known (Kind.Clock k) n) er q = let z : _≡_ {A = ℕ} 0 1 = cc in absurd (omega arith)
-          go (Row.Known (Kind.Voltage k) n) er q = let z : _≡_ {A = ℕ} 0 1 = cc in absurd (omega arith)
-          go (Row.Known (Kind.Temperature k) n) er q = let z : _≡_ {A = ℕ} 0 1 = cc in absurd (omega arith)
+          go (Row.Known (Kind.Fact k) n) er q = absurd (true≢false cc)
+          go (Row.Known (Kind.Power k) n) er q = absurd (true≢false cc)
+          go (Row.Known (Kind.Clock k) n) er q = absurd (true≢false cc)
+          go (Row.Known (Kind.Voltage k) n) er q = absurd (true≢false cc)
+          go (Row.Known (Kind.Temperature k) n) er q = absurd (true≢false cc)

@@ -1,5 +1,5 @@
 -- A message that was walked, its group and its code word come to the reply.
-use mathlib.Core.Bool.{Bool, true, false, cond}
+use mathlib.Core.Bool.{Bool, true, false, cond, true≢false}
 use mathlib.Core.List.{List}
 use mathlib.Core.Path.{_≡_, refl, sym, ap, _∙_, subst}
 use Prim.Native.Nat.{ℕ, _+_, _≤_}
@@ -90,7 +90,7 @@ module _ (b₀ : Board) (m₀ : List ℕ) (size : ℕ) (came : Came b₀ m₀ si
           where
             go : (a : Bool) → g ≡ cond a (groupBy (eqb (tr .ending .outcome) done) (b₀ .display) o₀) (mixed (b₀ .display)) → g ≡ groupBy (eqb (tr .ending .outcome) done) (b₀ .display) o₀
             go true q = q
-            go false q = let z : true ≡ false = sym y ∙ ap (λ (x : Decision). x .answered) q in let k : _≡_ {A = ℕ} 0 1 = cc in absurd (omega arith)
+            go false q = absurd (true≢false (sym y ∙ ap (λ (x : Decision). x .answered) q))
 
         answered-faultless : eqb (tr .ending .outcome) done ≡ true
         unfolding groupOf
@@ -98,7 +98,7 @@ module _ (b₀ : Board) (m₀ : List ℕ) (size : ℕ) (came : Came b₀ m₀ si
           where
             go : (a : Bool) → g ≡ groupBy a (b₀ .display) o₀ → a ≡ true
             go true q = refl
-            go false q = let z : true ≡ false = sym y ∙ ap (λ (x : Decision). x .answered) q in let k : _≡_ {A = ℕ} 0 1 = cc in absurd (omega arith)
+            go false q = absurd (true≢false (sym y ∙ ap (λ (x : Decision). x .answered) q))
 
         again : Twice g b₀ b tr m₀ (trail m size header) m
         again =
@@ -141,7 +141,7 @@ module _ (b : Board) (m : List ℕ) (p : Progress) where
     where
       go : (b₀ : Board) (m₀ : List ℕ) → Led b₀ m₀ b m p → leaves m (record { outcome = p .outcome; place = p .place; board = b }) ≡ reply b₀ m₀
       go b₀ m₀ (refused h) = h .serves
-      go b₀ m₀ (walked c h) = let z : true ≡ false = sym y ∙ h .is in let k : _≡_ {A = ℕ} 0 1 = cc in absurd (omega arith)
+      go b₀ m₀ (walked c h) = absurd (true≢false (sym y ∙ h .is))
 
   module _ (n : p .refused ≡ false) where
     -- what was walked is a message that is served
@@ -149,14 +149,14 @@ module _ (b : Board) (m : List ℕ) (p : Progress) where
     ready-display r = go (r .led)
       where
         go : Led (r .b₀) (r .m₀) b m p → validDisplay (b .display) ≡ true
-        go (refused h) = let z : true ≡ false = sym (h .is) ∙ n in let k : _≡_ {A = ℕ} 0 1 = cc in absurd (omega arith)
+        go (refused h) = absurd (true≢false (sym (h .is) ∙ n))
         go (walked c h) = walked-display (r .b₀) (r .m₀) (p .size) c (h .through)
 
     pub ready-code : Ready b m p → codePlace + 4 ≤ length m
     ready-code r = go (r .led)
       where
         go : Led (r .b₀) (r .m₀) b m p → codePlace + 4 ≤ length m
-        go (refused h) = let z : true ≡ false = sym (h .is) ∙ n in let k : _≡_ {A = ℕ} 0 1 = cc in absurd (omega arith)
+        go (refused h) = absurd (true≢false (sym (h .is) ∙ n))
         go (walked c h) = let k = walked-walking (r .b₀) (r .m₀) (p .size) c (h .through) in omega arith
 
     -- what is written keeps the length
@@ -168,7 +168,7 @@ module _ (b : Board) (m : List ℕ) (p : Progress) where
       ready-answerable y r = go (r .led)
         where
           go : Led (r .b₀) (r .m₀) b m p → Answerable m (p .size) b g
-          go (refused h) = let z : true ≡ false = sym (h .is) ∙ n in let k : _≡_ {A = ℕ} 0 1 = cc in absurd (omega arith)
+          go (refused h) = absurd (true≢false (sym (h .is) ∙ n))
           go (walked c h) = walked-answerable (r .b₀) (r .m₀) (p .size) c (h .through) eg y
 
       module _ {code : ℕ} (ec : code ≡ codeOf (p .outcome)) {m₂ : List ℕ} where
@@ -176,12 +176,12 @@ module _ (b : Board) (m : List ℕ) (p : Progress) where
         conclude-answered y e₁ e₂ = record { serves = go }
           where
             go : (b₀ : Board) (m₀ : List ℕ) → Led b₀ m₀ b m p → leaves m₂ (record { outcome = p .outcome; place = p .place; board = withDisplay b (g .display) }) ≡ reply b₀ m₀
-            go b₀ m₀ (refused h) = let z : true ≡ false = sym (h .is) ∙ n in let k : _≡_ {A = ℕ} 0 1 = cc in absurd (omega arith)
+            go b₀ m₀ (refused h) = absurd (true≢false (sym (h .is) ∙ n))
             go b₀ m₀ (walked c h) = close-answered b₀ m₀ (p .size) c (h .through) eg y ec e₂ e₁
 
         pub conclude-left : g .answered ≡ false → m₂ ≡ put codePlace (le 4 code) m → Concluded b m m₂ p (g .display)
         conclude-left y e₂ = record { serves = go }
           where
             go : (b₀ : Board) (m₀ : List ℕ) → Led b₀ m₀ b m p → leaves m₂ (record { outcome = p .outcome; place = p .place; board = withDisplay b (g .display) }) ≡ reply b₀ m₀
-            go b₀ m₀ (refused h) = let z : true ≡ false = sym (h .is) ∙ n in let k : _≡_ {A = ℕ} 0 1 = cc in absurd (omega arith)
+            go b₀ m₀ (refused h) = absurd (true≢false (sym (h .is) ∙ n))
             go b₀ m₀ (walked c h) = close-left b₀ m₀ (p .size) c (h .through) eg y ec e₂

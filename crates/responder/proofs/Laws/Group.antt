@@ -1,9 +1,8 @@
 -- A message's group where it is not answered, and where there is none.
-use mathlib.Core.Bool.{Bool, true, false, cond, _||_}
+use mathlib.Core.Bool.{Bool, true, false, cond, _||_, true≢false}
 use mathlib.Core.List.{List, [], _∷_}
 use mathlib.Core.Path.{_≡_, refl, sym, ap, _∙_}
 use Prim.Native.Nat.{ℕ}
-use native.Mathlib.Omega.{arith}
 use borrow.Author.Tests.{eq-eqb, ne-eqb}
 use lib.Dec.{eqb}
 use Rattle.message.specs.Outcomes.{done}
@@ -86,9 +85,7 @@ without (r ∷ rs) o e = go r (λ (h : asked (operation o rs) ≡ false). withou
     go passed ih e = outside passed refl (λ g g′ b. refl) (ih e)
     go short ih e = outside short refl (λ g g′ b. refl) (ih e)
     go (asks (Kind.Frame t) bytes) ih e =
-        let z : true ≡ false = sym (asked-stays rs (noted t (first bytes) (second bytes) o) (asked-noted t (first bytes) (second bytes) o)) ∙ e in
-        let k : _≡_ {A = ℕ} 0 1 = cc in
-        absurd (omega arith)
+        absurd (true≢false (sym (asked-stays rs (noted t (first bytes) (second bytes) o) (asked-noted t (first bytes) (second bytes) o)) ∙ e))
     go (asks (Kind.Fact t) bytes) ih e = outside (asks (Kind.Fact t) bytes) refl (λ g g′ b. refl) (ih e)
     go (asks (Kind.Power t) bytes) ih e = outside (asks (Kind.Power t) bytes) refl (λ g g′ b. refl) (ih e)
     go (asks (Kind.Clock t) bytes) ih e = outside (asks (Kind.Clock t) bytes) refl (λ g g′ b. refl) (ih e)

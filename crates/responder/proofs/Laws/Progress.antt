@@ -1,5 +1,5 @@
 -- How a message comes from one of the responder's functions to the next.
-use mathlib.Core.Bool.{true, false}
+use mathlib.Core.Bool.{true, false, true≢false}
 use mathlib.Core.List.{List, [], _∷_}
 use mathlib.Core.Path.{_≡_, refl, sym, ap, _∙_, subst}
 use Prim.Native.Nat.{ℕ, _+_, _-_, _≤_, _<_}
@@ -117,15 +117,15 @@ leading-begun b m size p c (partly e s) = stopped (rw e c) s
 -- where no tag outside the group comes, the message is walked
 pub begun-led : (b : Board) (m : List ℕ) (p : Progress) → Begun b m p → p .outside ≡ false → Led b m b m p
 begun-led b m p (led h) e = h
-begun-led b m p (stopped c s) e = let z : true ≡ false = sym (s .outside) ∙ e in let k : _≡_ {A = ℕ} 0 1 = cc in absurd (omega arith)
+begun-led b m p (stopped c s) e = absurd (true≢false (sym (s .outside) ∙ e))
 
 -- ---- a message that is carried on
 abbrev pub Carrying : (b₀ : Board) (m₀ : List ℕ) (size : ℕ) (m : List ℕ) (b : Board) (o : Operation) (p : ℕ) → Type 0
 Carrying b₀ m₀ size m b o p = Came b₀ m₀ size × Ahead (mixed (b₀ .display)) m₀ size b₀ m b o p
 
 inside-not : {b₀ : Board} {m₀ : List ℕ} {b : Board} {m : List ℕ} {p : Progress} → Led b₀ m₀ b m p → p .outside ≡ true → ⊥
-inside-not (refused h) e = let z : true ≡ false = sym e ∙ h .inside in let k : _≡_ {A = ℕ} 0 1 = cc in omega arith
-inside-not (walked c h) e = let z : true ≡ false = sym e ∙ h .inside in let k : _≡_ {A = ℕ} 0 1 = cc in omega arith
+inside-not (refused h) e = true≢false (sym e ∙ h .inside)
+inside-not (walked c h) e = true≢false (sym e ∙ h .inside)
 
 pub carry-start : (b : Board) (m : List ℕ) (p : Progress) → Begun b m p → p .outside ≡ true → Carrying b m (p .size) m b (p .operation) (p .place)
 carry-start b m p (led h) e = absurd (inside-not h e)

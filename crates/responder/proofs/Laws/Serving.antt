@@ -1,5 +1,5 @@
 -- One turn of a walk: a law for each thing that a tag can ask.
-use mathlib.Core.Bool.{Bool, true, false, cond}
+use mathlib.Core.Bool.{Bool, true, false, cond, true≢false}
 use mathlib.Core.List.{List, [], _∷_, _++_}
 use mathlib.Core.Path.{_≡_, refl, sym, ap, _∙_, subst}
 use Prim.Native.Nat.{ℕ, _-_, _≤_, _<_}
@@ -63,7 +63,7 @@ again-start g m₀ size b₀ y w l = record {
   bytes = refl;
   board = refl;
   ending = refl;
-  noted = λ n. let c : true ≡ false = sym y ∙ n in let d : _≡_ {A = ℕ} 0 1 = cc in absurd (omega arith);
+  noted = λ n. absurd (true≢false (sym y ∙ n));
   line = l;
 }
 
@@ -154,52 +154,49 @@ module _ (g : Decision) (m₀ : List ℕ) (size : ℕ) (b₀ : Board) (m : List 
           }
 
       -- one law for each arm of the loop
-      not-short : {x : Ask} → q ≡ x → (x ≡ Ask.Short → ⊥) → q ≡ Ask.Short → ⊥
-      not-short e n z = n (sym e ∙ z)
-
       pub serve-pass : q ≡ Ask.Pass → Ahead g m₀ size b₀ m b o next
       unfolding saidOf afterOf
-      serve-pass e = serve-on (not-short e (λ z. let c : _≡_ {A = ℕ} 0 1 = cc in omega arith)) (rw e) (rw e) (λ z. rw e)
+      serve-pass e = serve-on (λ z. true≢false cc) (rw e) (rw e) (λ z. rw e)
 
       module _ {m′ : List ℕ} {a n : ℕ} (em : m′ ≡ answered (t .at) (t .size) (le 4 a ++ le 4 n) m) where
         pub serve-fixed : q ≡ Ask.Fixed a n → Ahead g m₀ size b₀ m′ b o next
         unfolding saidOf afterOf
-        serve-fixed e = serve-on (not-short e (λ z. let c : _≡_ {A = ℕ} 0 1 = cc in omega arith)) (rw e em) (rw e) (λ z. rw e)
+        serve-fixed e = serve-on (λ z. true≢false cc) (rw e em) (rw e) (λ z. rw e)
 
         pub serve-power : {k : PowerTag} {i x : ℕ} {d : Device} → q ≡ Ask.Power k i a x → d ≡ powerAfter k x (getD (b .devices) i noDevice) → n ≡ powerValue k d
             → Ahead g m₀ size b₀ m′ (withDevices b (set (b .devices) i d)) o next
         unfolding saidOf afterOf
-        serve-power e ed en = serve-on (not-short e (λ z. let c : _≡_ {A = ℕ} 0 1 = cc in omega arith)) (rw (e, ← ed, ← en) em) (rw (e, ← ed)) (λ z. rw e)
+        serve-power e ed en = serve-on (λ z. true≢false cc) (rw (e, ← ed, ← en) em) (rw (e, ← ed)) (λ z. rw e)
 
         pub serve-clock : {k : ClockTag} {i x : ℕ} {c : Clock} → q ≡ Ask.Clock k i a x → c ≡ clockAfter k x (getD (b .clocks) i noClock) → n ≡ clockValue k c
             → Ahead g m₀ size b₀ m′ (withClocks b (set (b .clocks) i c)) o next
         unfolding saidOf afterOf
-        serve-clock e ec en = serve-on (not-short e (λ z. let c : _≡_ {A = ℕ} 0 1 = cc in omega arith)) (rw (e, ← ec, ← en) em) (rw (e, ← ec)) (λ z. rw e)
+        serve-clock e ec en = serve-on (λ z. true≢false cc) (rw (e, ← ec, ← en) em) (rw (e, ← ec)) (λ z. rw e)
 
         pub serve-voltage : {k : VoltageTag} {i x : ℕ} {v : Voltage} → q ≡ Ask.Voltage k i a x → v ≡ voltageAfter k x (getD (b .voltages) i noVoltage) → n ≡ voltageValue k v
             → Ahead g m₀ size b₀ m′ (withVoltages b (set (b .voltages) i v)) o next
         unfolding saidOf afterOf
-        serve-voltage e ev en = serve-on (not-short e (λ z. let c : _≡_ {A = ℕ} 0 1 = cc in omega arith)) (rw (e, ← ev, ← en) em) (rw (e, ← ev)) (λ z. rw e)
+        serve-voltage e ev en = serve-on (λ z. true≢false cc) (rw (e, ← ev, ← en) em) (rw (e, ← ev)) (λ z. rw e)
 
         pub serve-temperature : {k : TemperatureTag} → q ≡ Ask.Temperature k a → n ≡ temperatureValue k a (b .temperature) → Ahead g m₀ size b₀ m′ b o next
         unfolding saidOf afterOf
-        serve-temperature e en = serve-on (not-short e (λ z. let c : _≡_ {A = ℕ} 0 1 = cc in omega arith)) (rw (e, ← en) em) (rw e) (λ z. rw e)
+        serve-temperature e en = serve-on (λ z. true≢false cc) (rw (e, ← en) em) (rw e) (λ z. rw e)
 
       module _ {m′ : List ℕ} {x : Answer} (em : m′ ≡ answered (t .at) (t .size) (answerBytes (b .facts) (b .line) x) m) where
         pub serve-fact : {k : FactTag} → q ≡ Ask.Fact k → x ≡ factAnswer k (b .facts) → Ahead g m₀ size b₀ m′ b o next
         unfolding saidOf afterOf
-        serve-fact e ex = serve-on (not-short e (λ z. let c : _≡_ {A = ℕ} 0 1 = cc in omega arith)) (rw (e, ← ex) em) (rw e) (λ z. rw e)
+        serve-fact e ex = serve-on (λ z. true≢false cc) (rw (e, ← ex) em) (rw e) (λ z. rw e)
 
         pub serve-frame : {k : FrameTag} {a c : ℕ} → q ≡ Ask.Frame k a c → g .answered ≡ true → x ≡ groupAnswer g k → Ahead g m₀ size b₀ m′ b o next
         unfolding saidOf afterOf
         serve-frame {k} e ga ex =
-            serve-on (not-short e (λ z. let c : _≡_ {A = ℕ} 0 1 = cc in omega arith))
+            serve-on (λ z. true≢false cc)
             (rw e (em ∙ ap (λ (y : Answer). answered (t .at) (t .size) (answerBytes (b .facts) (b .line) y) m) ex
-            ∙ ap (λ (y : Bool). written t (cond y (says (answerBytes (b .facts) (b .line) (groupAnswer g k))) silent) m) (sym ga))) (rw e) (λ z. let c : true ≡ false = sym ga ∙ z in let d : _≡_ {A = ℕ} 0 1 = cc in absurd (omega arith))
+            ∙ ap (λ (y : Bool). written t (cond y (says (answerBytes (b .facts) (b .line) (groupAnswer g k))) silent) m) (sym ga))) (rw e) (λ z. absurd (true≢false (sym ga ∙ z)))
 
       pub serve-left : {k : FrameTag} {a c : ℕ} {o′ : Operation} → q ≡ Ask.Frame k a c → g .answered ≡ false → o′ ≡ noted k a c o → Ahead g m₀ size b₀ m b o′ next
       unfolding saidOf afterOf
-      serve-left e ga eo = serve-on (not-short e (λ z. let c : _≡_ {A = ℕ} 0 1 = cc in omega arith)) (rw (e, ga)) (rw e) (λ z. rw e eo)
+      serve-left e ga eo = serve-on (λ z. true≢false cc) (rw (e, ga)) (rw e) (λ z. rw e eo)
 
       -- the place of an item is within the items
       pub within-devices : {k : PowerTag} {i a x : ℕ} → q ≡ Ask.Power k i a x → i < 11

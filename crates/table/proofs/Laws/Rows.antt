@@ -1,9 +1,8 @@
 -- Every request is made of whole words, two at most.
-use mathlib.Core.Bool.{Bool, true, false, cond, _&&_, and-eq-true-iff}
+use mathlib.Core.Bool.{Bool, true, false, cond, _&&_, and-eq-true-iff, true≢false}
 use mathlib.Core.List.{List, [], _∷_}
 use mathlib.Core.Path.{_≡_, refl}
 use Prim.Native.Nat.{ℕ, _%_, _≤_}
-use native.Mathlib.Omega.{arith}
 use borrow.Author.Tests.{eqb-true, leb-true}
 use lib.Dec.{eqb, leb}
 use Rattle.words.specs.All.{all}
@@ -19,7 +18,7 @@ abbrev ofWords : Entry → Bool
 ofWords e = eqb (e .request % 4) 0 && leb (e .request) 8
 
 words-found : (id : ℕ) (es : List Entry) {k : Kind} {n : ℕ} → all ofWords es ≡ true → find id es ≡ Row.Known k n → Words n
-words-found id [] a e = let z : _≡_ {A = ℕ} 0 1 = cc in absurd (omega arith)
+words-found id [] a e = absurd (true≢false cc)
 words-found id (x ∷ es) {k} {n} a e =
     let p = and-eq-true-iff (ofWords x) (all ofWords es) .0 a in
     go (eqb id (x .id)) (p .0) (words-found id es {k = k} {n = n} (p .1)) e

@@ -1,5 +1,5 @@
 -- What a tag leaves of its item.
-use mathlib.Core.Bool.{Bool, true, false, cond, not, _&&_, _||_, and-eq-true-iff}
+use mathlib.Core.Bool.{Bool, true, false, cond, not, _&&_, _||_, and-eq-true-iff, true≢false}
 use mathlib.Core.Path.{_≡_, refl, sym, ap, _∙_}
 use Prim.Native.Nat.{ℕ, _%_, _≤_, min, max}
 use native.Mathlib.Omega.{arith}
@@ -75,7 +75,7 @@ only-where false c h = refl
 
 where-set : (b c : Bool) → (not b || c) ≡ true → b ≡ true → c ≡ true
 where-set true c e z = e
-where-set false c e z = let q : _≡_ {A = ℕ} 0 1 = cc in absurd (omega arith)
+where-set false c e z = absurd (true≢false cc)
 
 both : (a b : Bool) → a ≡ true → b ≡ true → (a && b) ≡ true
 both a b p q = and-eq-true-iff a b .1 (p, q)
