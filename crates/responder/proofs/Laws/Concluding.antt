@@ -29,7 +29,7 @@ use Rattle.responder.proofs.Laws.Saids.{few-characters}
 use Rattle.responder.proofs.Laws.Twice.{Twice, twice}
 use Rattle.responder.proofs.Laws.Written.{writes-length}
 use Rattle.responder.specs.Answers.{Said, operation, groupBy, groupOf, answers, after}
-use Rattle.responder.specs.Progress.{Through, Came, Led, refused, walked, Ready, Concluded, Answerable}
+use Rattle.responder.specs.Progress.{Through, Came, AtEnd, Led, refused, walked, Ready, Concluded, Answerable}
 use Rattle.responder.specs.Reply.{writeAll, codeOf, withDisplay, served, reply}
 use Rattle.responder.specs.Serve.{bytesOf, groupIn, asked, groupFor}
 use Rattle.responder.specs.declared.progress.Progress.{Progress}
@@ -145,19 +145,18 @@ module _ (b : Board) (m : List ℕ) (p : Progress) where
 
   module _ (n : p .refused ≡ false) where
     -- what was walked is a message that is served
+    led-walked : {b₀ : Board} {m₀ : List ℕ} → Led b₀ m₀ b m p → (Came b₀ m₀ (p .size)) × (AtEnd b₀ m₀ b m p)
+    led-walked (refused h) = absurd (true≢false (sym (h .is) ∙ n))
+    led-walked (walked c h) = (c, h)
+
     pub ready-display : Ready b m p → validDisplay (b .display) ≡ true
-    ready-display r = go (r .led)
-      where
-        go : Led (r .b₀) (r .m₀) b m p → validDisplay (b .display) ≡ true
-        go (refused h) = absurd (true≢false (sym (h .is) ∙ n))
-        go (walked c h) = walked-display (r .b₀) (r .m₀) (p .size) c (h .through)
+    ready-display r = let w = led-walked (r .led) in walked-display (r .b₀) (r .m₀) (p .size) (w .0) (w .1 .through)
 
     pub ready-code : Ready b m p → codePlace + 4 ≤ length m
-    ready-code r = go (r .led)
-      where
-        go : Led (r .b₀) (r .m₀) b m p → codePlace + 4 ≤ length m
-        go (refused h) = absurd (true≢false (sym (h .is) ∙ n))
-        go (walked c h) = let k = walked-walking (r .b₀) (r .m₀) (p .size) c (h .through) in omega arith
+    ready-code r =
+        let w = led-walked (r .led) in
+        let k = walked-walking (r .b₀) (r .m₀) (p .size) (w .0) (w .1 .through) in
+        omega arith
 
     -- what is written keeps the length
     pub answered-code : Ready b m p → (g : Decision) {m₁ : List ℕ} → m₁ ≡ bytesOf g b (trail m (p .size) header) m → codePlace + 4 ≤ length m₁
@@ -165,23 +164,13 @@ module _ (b : Board) (m : List ℕ) (p : Progress) where
 
     module _ {g : Decision} (eg : g ≡ groupFor (eqb (p .outcome) done) (b .display) (p .operation)) where
       pub ready-answerable : g .answered ≡ true → Ready b m p → Answerable m (p .size) b g
-      ready-answerable y r = go (r .led)
-        where
-          go : Led (r .b₀) (r .m₀) b m p → Answerable m (p .size) b g
-          go (refused h) = absurd (true≢false (sym (h .is) ∙ n))
-          go (walked c h) = walked-answerable (r .b₀) (r .m₀) (p .size) c (h .through) eg y
+      ready-answerable y r = let w = led-walked (r .led) in walked-answerable (r .b₀) (r .m₀) (p .size) (w .0) (w .1 .through) eg y
 
       module _ {code : ℕ} (ec : code ≡ codeOf (p .outcome)) {m₂ : List ℕ} where
         pub conclude-answered : g .answered ≡ true → {m₁ : List ℕ} → m₁ ≡ bytesOf g b (trail m (p .size) header) m → m₂ ≡ put codePlace (le 4 code) m₁ → Concluded b m m₂ p (g .display)
-        conclude-answered y e₁ e₂ = record { serves = go }
-          where
-            go : (b₀ : Board) (m₀ : List ℕ) → Led b₀ m₀ b m p → leaves m₂ (record { outcome = p .outcome; place = p .place; board = withDisplay b (g .display) }) ≡ reply b₀ m₀
-            go b₀ m₀ (refused h) = absurd (true≢false (sym (h .is) ∙ n))
-            go b₀ m₀ (walked c h) = close-answered b₀ m₀ (p .size) c (h .through) eg y ec e₂ e₁
+        conclude-answered y e₁ e₂ = record {
+          serves = λ b₀ m₀ l. let w = led-walked l in close-answered b₀ m₀ (p .size) (w .0) (w .1 .through) eg y ec e₂ e₁;
+        }
 
         pub conclude-left : g .answered ≡ false → m₂ ≡ put codePlace (le 4 code) m → Concluded b m m₂ p (g .display)
-        conclude-left y e₂ = record { serves = go }
-          where
-            go : (b₀ : Board) (m₀ : List ℕ) → Led b₀ m₀ b m p → leaves m₂ (record { outcome = p .outcome; place = p .place; board = withDisplay b (g .display) }) ≡ reply b₀ m₀
-            go b₀ m₀ (refused h) = absurd (true≢false (sym (h .is) ∙ n))
-            go b₀ m₀ (walked c h) = close-left b₀ m₀ (p .size) c (h .through) eg y ec e₂
+        conclude-left y e₂ = record { serves = λ b₀ m₀ l. let w = led-walked l in close-left b₀ m₀ (p .size) (w .0) (w .1 .through) eg y ec e₂ }
