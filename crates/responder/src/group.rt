@@ -95,8 +95,6 @@ pub fn conclude(board: Board, msg: &mut [u8], progress: Progress) -> Display
     let group = group_of(display, progress.outcome, progress.operation);
     if group.answered {
         answer_group(board, msg, progress.size, group);
-        put_u32(msg, Message::CODE, code_of(progress.outcome));
-        return group.display;
     }
     put_u32(msg, Message::CODE, code_of(progress.outcome));
     group.display

@@ -135,6 +135,15 @@ module _ (b₀ : Board) (m₀ : List ℕ) (size : ℕ) (came : Came b₀ m₀ si
               closing ec e₂ left (v .alike left whole b₀) (w .bytes) (g .display) (ap (λ (x : Decision). x .display) q ∙ sym (display-without (eqb (tr .ending .outcome) done) (b₀ .display) o₀ (v .same)))
 
 -- ---- whatever message was walked
+-- with a decision g, the message m₁ that the group leaves of m
+pub data Settled (b : Board) (m : List ℕ) (size : ℕ) (g : Decision) (m₁ : List ℕ) : Type 0 where
+  told : g .answered ≡ true → m₁ ≡ bytesOf g b (trail m size header) m → Settled b m size g m₁
+  kept : g .answered ≡ false → m₁ ≡ m → Settled b m size g m₁
+
+pub settled-length : (b : Board) (m : List ℕ) (size : ℕ) (g : Decision) {m₁ : List ℕ} → Settled b m size g m₁ → length m₁ ≡ length m
+settled-length b m size g (told y e) = ap length e ∙ writes-length (trail m size header .tags) (answers g b (trail m size header .requests)) m
+settled-length b m size g (kept y e) = ap length e
+
 module _ (b : Board) (m : List ℕ) (p : Progress) where
   pub conclude-refused : p .refused ≡ true → Concluded b m m p (b .display)
   conclude-refused y = record { serves = go }
@@ -152,25 +161,24 @@ module _ (b : Board) (m : List ℕ) (p : Progress) where
     pub ready-display : Ready b m p → validDisplay (b .display) ≡ true
     ready-display r = let w = led-walked (r .led) in walked-display (r .b₀) (r .m₀) (p .size) (w .0) (w .1 .through)
 
-    pub ready-code : Ready b m p → codePlace + 4 ≤ length m
+    ready-code : Ready b m p → codePlace + 4 ≤ length m
     ready-code r =
         let w = led-walked (r .led) in
         let k = walked-walking (r .b₀) (r .m₀) (p .size) (w .0) (w .1 .through) in
         omega arith
 
-    -- what is written keeps the length
-    pub answered-code : Ready b m p → (g : Decision) {m₁ : List ℕ} → m₁ ≡ bytesOf g b (trail m (p .size) header) m → codePlace + 4 ≤ length m₁
-    answered-code r g e = let l = ready-code r in rw e (rw (writes-length (trail m (p .size) header .tags) (answers g b (trail m (p .size) header .requests)) m) l)
-
     module _ {g : Decision} (eg : g ≡ groupFor (eqb (p .outcome) done) (b .display) (p .operation)) where
       pub ready-answerable : g .answered ≡ true → Ready b m p → Answerable m (p .size) b g
       ready-answerable y r = let w = led-walked (r .led) in walked-answerable (r .b₀) (r .m₀) (p .size) (w .0) (w .1 .through) eg y
 
-      module _ {code : ℕ} (ec : code ≡ codeOf (p .outcome)) {m₂ : List ℕ} where
-        pub conclude-answered : g .answered ≡ true → {m₁ : List ℕ} → m₁ ≡ bytesOf g b (trail m (p .size) header) m → m₂ ≡ put codePlace (le 4 code) m₁ → Concluded b m m₂ p (g .display)
-        conclude-answered y e₁ e₂ = record {
-          serves = λ b₀ m₀ l. let w = led-walked l in close-answered b₀ m₀ (p .size) (w .0) (w .1 .through) eg y ec e₂ e₁;
-        }
+      module _ {m₁ : List ℕ} (s : Settled b m (p .size) g m₁) where
+        pub settled-code : Ready b m p → codePlace + 4 ≤ length m₁
+        settled-code r = let k = ready-code r in let l = settled-length b m (p .size) g s in omega arith
 
-        pub conclude-left : g .answered ≡ false → m₂ ≡ put codePlace (le 4 code) m → Concluded b m m₂ p (g .display)
-        conclude-left y e₂ = record { serves = λ b₀ m₀ l. let w = led-walked l in close-left b₀ m₀ (p .size) (w .0) (w .1 .through) eg y ec e₂ }
+        pub conclude-settled : {code : ℕ} → code ≡ codeOf (p .outcome) → {m₂ : List ℕ} → m₂ ≡ put codePlace (le 4 code) m₁ → Concluded b m m₂ p (g .display)
+        conclude-settled {code} ec {m₂} e₂ = record { serves = λ b₀ m₀ l. go b₀ m₀ (led-walked l) s }
+          where
+            go : (b₀ : Board) (m₀ : List ℕ) → (Came b₀ m₀ (p .size)) × (AtEnd b₀ m₀ b m p) → Settled b m (p .size) g m₁
+                → leaves m₂ (record { outcome = p .outcome; place = p .place; board = withDisplay b (g .display) }) ≡ reply b₀ m₀
+            go b₀ m₀ w (told y e) = close-answered b₀ m₀ (p .size) (w .0) (w .1 .through) eg y ec e₂ e
+            go b₀ m₀ w (kept y e) = close-left b₀ m₀ (p .size) (w .0) (w .1 .through) eg y ec (e₂ ∙ ap (put codePlace (le 4 code)) e)

@@ -1,4 +1,7 @@
-use Rattle.responder.proofs.Laws.Concluding.{conclude-refused, ready-display, ready-code, ready-answerable, conclude-answered, conclude-left, answered-code}
+use mathlib.Core.Logic.{⊎-elim}
+use mathlib.Core.Path.{_∙_}
+use denote.Ref.{now}
+use Rattle.responder.proofs.Laws.Concluding.{Settled, told, kept, conclude-refused, ready-display, ready-answerable, settled-length, settled-code, conclude-settled}
 use borrow.Author.Needs.{needs}
 use Rattle.responder.proofs.group.conclude.Statement.{statement}
 use Rattle.responder.proofs.group.conclude.Tie as tie
@@ -15,26 +18,22 @@ answer-group-requires c κs = ready-answerable _ _ _ (c .before .before .before 
 code-of-requires : tie.Need-code-of-requires
 code-of-requires c κs = search needs
 
+-- where the ways of the group meet
+settled : (c : tie.Joined2) → let start = c .before .before .before .before .before in Settled (start .args .board) (now (start .args .msg)) (start .args .progress .size) (c .before .group-of .result) (c .if2 .msg)
+settled c = ⊎-elim (λ w. told (w .0 .taken) (w .5 ∙ w .2 .ensures)) (λ w. kept (w .0 .left) (w .1)) (c .if2 .came)
+
 put-u32-requires : tie.Need-put-u32-requires
-put-u32-requires c κs = answered-code _ _ _ (c .before .before .before .before .before .before .before .before .if1 .left) (c .before .before .before .before .before .before .before .before .before .before .before .pre) _ (c .before .before .before .before .answer-group .ensures)
+put-u32-requires c κs = settled-code _ _ _ (c .before .before .before .before .if1 .left) (c .before .before .before .group-of .ensures) (settled (c .before .before)) (c .before .before .before .before .before .before .before .pre)
 
 same-length : tie.Need-same-length
-same-length c = search needs
+same-length c =
+    let at-end = c .before .before .before .before .before .before in
+    c .before .before .before .put-u32 .kept .0 ∙ settled-length _ _ _ _ (settled at-end)
 
 returns-2 : tie.Need-returns-2
-returns-2 c = conclude-answered _ _ _ (c .before .before .before .before .before .before .before .before .before .before .before .before .if1 .left) (c .before .before .before .before .before .before .before .before .before .before .before .group-of .ensures) (c .before .before .before .before .code-of .ensures) (c .before .before .before .before .before .before .before .before .before .before .if2 .taken) (c .before .before .before .before .before .before .before .before .answer-group .ensures) (c .before .before .before .put-u32 .ensures)
-
-code-of-requires-2 : tie.Need-code-of-requires-2
-code-of-requires-2 c κs = search needs
-
-put-u32-requires-2 : tie.Need-put-u32-requires-2
-put-u32-requires-2 c κs = ready-code _ _ _ (c .before .before .before .before .if1 .left) (c .before .before .before .before .before .before .before .pre)
-
-same-length-2 : tie.Need-same-length-2
-same-length-2 c = search needs
-
-returns-3 : tie.Need-returns-3
-returns-3 c = conclude-left _ _ _ (c .before .before .before .before .before .before .before .before .if1 .left) (c .before .before .before .before .before .before .before .group-of .ensures) (c .before .before .before .before .code-of2 .ensures) (c .before .before .before .before .before .before .if2 .left) (c .before .before .before .put-u322 .ensures)
+returns-2 c =
+    let at-end = c .before .before .before .before .before .before in
+    conclude-settled _ _ _ (at-end .before .before .if1 .left) (at-end .before .group-of .ensures) (settled at-end) (c .before .before .before .before .code-of .ensures) (c .before .before .before .put-u32 .ensures)
 
 pub conclude-spec : {M : Type 1} → statement M
 conclude-spec =
@@ -46,8 +45,4 @@ conclude-spec =
     code-of-requires
     put-u32-requires
     same-length
-    returns-2
-    code-of-requires-2
-    put-u32-requires-2
-    same-length-2
-    returns-3)
+    returns-2)
