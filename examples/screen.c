@@ -18,7 +18,7 @@ static void check(const char *what, uint32_t outcome)
 }
 
 /* Adds a tag whose value is `size` bytes, the first of them these words. */
-static void add(size_t *cursor, uint32_t id, uint32_t size, const uint32_t *words, size_t count)
+static void add(uint32_t *cursor, uint32_t id, uint32_t size, const uint32_t *words, size_t count)
 {
     uint8_t request[8];
     for (size_t i = 0; i < 4 * count; i++)
@@ -26,14 +26,14 @@ static void add(size_t *cursor, uint32_t id, uint32_t size, const uint32_t *word
     check("adding a tag", vc_add(buffer, sizeof buffer, cursor, id, size, request, 4 * count));
 }
 
-static void send(vc_board *board, size_t cursor)
+static void send(vc_board *board, uint32_t cursor)
 {
-    size_t size, place;
+    uint32_t size, place;
     check("finishing", vc_finish(buffer, sizeof buffer, cursor, &size));
     check("serving", vc_serve(board, buffer, size, &place));
 }
 
-static uint32_t word_at(size_t at)
+static uint32_t word_at(uint32_t at)
 {
     return buffer[at] | buffer[at + 1] << 8 | buffer[at + 2] << 16 | (uint32_t)buffer[at + 3] << 24;
 }
@@ -41,8 +41,7 @@ static uint32_t word_at(size_t at)
 int main(void)
 {
     const uint32_t size[2] = {640, 480}, depth[1] = {24}, alignment[1] = {16};
-    uint32_t answer;
-    size_t cursor, place, value, count;
+    uint32_t cursor, place, answer, value, count;
     vc_board board;
     vc_bench(&board);
 

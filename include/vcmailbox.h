@@ -4,7 +4,7 @@
  * outcome for any bytes, any numbers and any record, and reads and writes nothing but what it is lent.
  * A pointer must be valid for the length that follows it, and may be null where that is 0, or be valid for
  * the one number or record it points to; what is lent to be written must overlap nothing else that the same
- * call is lent.
+ * call is lent. Numbers are given back through uint32_t pointers: no offset or size is above 65,536.
  *
  * A message is a run of little-endian words: its size in bytes, a code, tags, an end word 0, padding.
  * A tag is its id, the size of its value in bytes, a tag word, and the value, padded to 4. */
@@ -44,14 +44,14 @@ enum {
  * refused writes nothing: adding leaves the cursor as it was, start and finish give 0.
  * The buffer must be aligned to 16 for a real mailbox; nothing here asks it. */
 
-uint32_t vc_start(const uint8_t *buffer, size_t length, size_t *cursor);
+uint32_t vc_start(const uint8_t *buffer, size_t length, uint32_t *cursor);
 
 /* A tag with a value of `size` bytes that begins with the request, and zeros behind it. */
-uint32_t vc_add(uint8_t *buffer, size_t length, size_t *cursor, uint32_t id, uint32_t size,
+uint32_t vc_add(uint8_t *buffer, size_t length, uint32_t *cursor, uint32_t id, uint32_t size,
                 const uint8_t *request, size_t request_length);
 
 /* Gives the size of the message, a multiple of 16. */
-uint32_t vc_finish(uint8_t *buffer, size_t length, size_t cursor, size_t *size);
+uint32_t vc_finish(uint8_t *buffer, size_t length, uint32_t cursor, uint32_t *size);
 
 /* ---- the client: taking messages apart
  *
@@ -59,13 +59,13 @@ uint32_t vc_finish(uint8_t *buffer, size_t length, size_t cursor, size_t *size);
 
 /* The tag of this index, counted from 0: its id, the size of its value, its tag word, and the offset
  * of its value in the message. */
-uint32_t vc_list(const uint8_t *message, size_t length, size_t index, size_t *place, uint32_t *id,
-                 uint32_t *size, uint32_t *word, size_t *value);
+uint32_t vc_list(const uint8_t *message, size_t length, size_t index, uint32_t *place, uint32_t *id,
+                 uint32_t *size, uint32_t *word, uint32_t *value);
 
 /* The answer of the tag of this id and occurrence, counted from 0, in a reply: the whole answer's
  * length, and the offset and number of its first `wanted` bytes in the message. */
 uint32_t vc_read(const uint8_t *message, size_t length, uint32_t id, size_t occurrence, size_t wanted,
-                 size_t *place, uint32_t *answer, size_t *value, size_t *count);
+                 uint32_t *place, uint32_t *answer, uint32_t *value, uint32_t *count);
 
 /* ---- the board */
 
@@ -163,7 +163,7 @@ void vc_bench(vc_board *board);
 
 /* Serves the message on the board: rewrites the message with the answers, and the record as its tags
  * change it. After VC_TOO_FEW_LENT, VC_BAD_SIZE, VC_NOT_REQUEST and VC_INVALID_BOARD both are as they were. */
-uint32_t vc_serve(vc_board *board, uint8_t *message, size_t length, size_t *place);
+uint32_t vc_serve(vc_board *board, uint8_t *message, size_t length, uint32_t *place);
 
 #ifdef __cplusplus
 }

@@ -12,8 +12,7 @@ static void line(const char *what, uint32_t outcome)
 
 int main(void)
 {
-    size_t cursor, size, place, value, count;
-    uint32_t id, bytes, word, answer;
+    uint32_t cursor, size, place, id, bytes, word, answer, value, count;
     vc_board board;
     vc_bench(&board);
     line("start", vc_start(NULL, 0, &cursor));

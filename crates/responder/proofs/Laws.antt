@@ -10,3 +10,4 @@ pub mod Concluding
 pub mod Progress
 pub mod Answering
 pub mod Responding
+pub mod Place

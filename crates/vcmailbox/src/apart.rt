@@ -10,20 +10,20 @@ ghost use Rattle.message.specs.Reader.{found};
 pub extern "C" fn vc_list(
     message: &[u8],
     index: usize,
-    place: &mut usize,
+    place: &mut u32,
     id: &mut u32,
     size: &mut u32,
     word: &mut u32,
-    value: &mut usize,
+    value: &mut u32,
 ) -> u32
     ensures { λ r. ⌜ record { outcome = r; place = now (place .exit); id = now (id .exit); size = now (size .exit); word = now (word .exit); value = now (value .exit) } ≡ listed (now (message .entry)) index ⌝ }
 {
     let listed = list(message, index);
-    *place = listed.place;
+    *place = listed.place as u32;
     *id = listed.id;
     *size = listed.size;
     *word = listed.word;
-    *value = listed.value;
+    *value = listed.value as u32;
     listed.outcome
 }
 
@@ -34,17 +34,17 @@ pub extern "C" fn vc_read(
     id: u32,
     occurrence: usize,
     wanted: usize,
-    place: &mut usize,
+    place: &mut u32,
     answer: &mut u32,
-    value: &mut usize,
-    count: &mut usize,
+    value: &mut u32,
+    count: &mut u32,
 ) -> u32
     ensures { λ r. ⌜ record { outcome = r; place = now (place .exit); length = now (answer .exit); value = now (value .exit); count = now (count .exit) } ≡ found (now (message .entry)) id occurrence wanted ⌝ }
 {
     let reading = read(message, id, occurrence, wanted);
-    *place = reading.place;
+    *place = reading.place as u32;
     *answer = reading.length;
-    *value = reading.value;
-    *count = reading.count;
+    *value = reading.value as u32;
+    *count = reading.count as u32;
     reading.outcome
 }

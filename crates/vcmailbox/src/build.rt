@@ -6,12 +6,12 @@ ghost use Rattle.message.specs.Builder.{leaves, built, started, added, finished
 
 // Starts a request in the buffer, and gives the first cursor.
 #[no_mangle]
-pub extern "C" fn vc_start(buffer: &[u8], cursor: &mut usize) -> u32
+pub extern "C" fn vc_start(buffer: &[u8], cursor: &mut u32) -> u32
     ensures { λ r. ⌜ built r (now (cursor .exit)) ≡ started (now (buffer .entry)) ⌝ }
 {
     let started = builder::start(buffer);
     let first = started.cursor;
-    *cursor = first.at;
+    *cursor = first.at as u32;
     started.outcome
 }
 
@@ -19,25 +19,27 @@ pub extern "C" fn vc_start(buffer: &[u8], cursor: &mut usize) -> u32
 #[no_mangle]
 pub extern "C" fn vc_add(
     buffer: &mut [u8],
-    cursor: &mut usize,
+    cursor: &mut u32,
     id: u32,
     size: u32,
     request: &[u8],
 ) -> u32
     ensures { λ r. ⌜ leaves (now (buffer .exit)) (built r (now (cursor .exit))) ≡ added (now (buffer .entry)) (record { at = now (cursor .entry) }) id size (now (request .entry)) ⌝ }
 {
-    let added = builder::add(buffer, Cursor { at: *cursor }, id, size, request);
+    let at = *cursor as usize;
+    let added = builder::add(buffer, Cursor { at }, id, size, request);
     let next = added.cursor;
-    *cursor = next.at;
+    *cursor = next.at as u32;
     added.outcome
 }
 
 // Finishes the request at the cursor, and gives its size.
 #[no_mangle]
-pub extern "C" fn vc_finish(buffer: &mut [u8], cursor: usize, size: &mut usize) -> u32
+pub extern "C" fn vc_finish(buffer: &mut [u8], cursor: u32, size: &mut u32) -> u32
     ensures { λ r. ⌜ leaves (now (buffer .exit)) (record { outcome = r; place = 0; size = now (size .exit) }) ≡ finished (now (buffer .entry)) (record { at = cursor }) ⌝ }
 {
-    let finished = builder::finish(buffer, Cursor { at: cursor });
-    *size = finished.size;
+    let at = cursor as usize;
+    let finished = builder::finish(buffer, Cursor { at });
+    *size = finished.size as u32;
     finished.outcome
 }

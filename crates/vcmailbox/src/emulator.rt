@@ -37,7 +37,7 @@ fn carry_through(board: &mut Board, message: &mut [u8], progress: Progress) -> P
 // Serves the message on the record. A message of nothing but group tags needs the display alone, and
 // the record is not copied for it.
 #[no_mangle]
-pub extern "C" fn vc_serve(board: &mut Board, message: &mut [u8], place: &mut usize) -> u32
+pub extern "C" fn vc_serve(board: &mut Board, message: &mut [u8], place: &mut u32) -> u32
     ensures { λ r. ⌜ leaves (now (message .exit)) (record { outcome = r; place = now (place .exit); board = now (board .exit) }) ≡ reply (now (board .entry)) (now (message .entry)) ⌝ }
 {
     let before = *board;
@@ -46,6 +46,6 @@ pub extern "C" fn vc_serve(board: &mut Board, message: &mut [u8], place: &mut us
     let after = *board;
     let shown = conclude(after, message, progress);
     board.display = shown;
-    *place = progress.place;
+    *place = progress.place as u32;
     progress.outcome
 }

@@ -152,8 +152,8 @@ fn any_cursor(random: &mut Random) -> Option<usize> {
         0 => random.below(12) as usize,
         1..=2 => 4 * random.below(30) as usize,
         3 => random.below(200) as usize,
-        4 => usize::MAX - random.below(40) as usize,
-        _ => random.pick(&[65_520, 65_524, 65_532, 65_536, 65_540, 1 << 32, (1 << 32) + 8]),
+        4 => (u32::MAX - random.below(40)) as usize,
+        _ => random.pick(&[65_520, 65_524, 65_532, 65_536, 65_540, 1 << 31, (1 << 31) + 8]),
     };
     Some(cursor)
 }

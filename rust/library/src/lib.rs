@@ -10,26 +10,26 @@ mod c {
     use interface::record::Board;
 
     extern "C" {
-        pub fn vc_start(buffer: *const u8, length: usize, cursor: *mut usize) -> u32;
+        pub fn vc_start(buffer: *const u8, length: usize, cursor: *mut u32) -> u32;
         pub fn vc_add(
             buffer: *mut u8,
             length: usize,
-            cursor: *mut usize,
+            cursor: *mut u32,
             id: u32,
             size: u32,
             request: *const u8,
             request_length: usize,
         ) -> u32;
-        pub fn vc_finish(buffer: *mut u8, length: usize, cursor: usize, size: *mut usize) -> u32;
+        pub fn vc_finish(buffer: *mut u8, length: usize, cursor: u32, size: *mut u32) -> u32;
         pub fn vc_list(
             message: *const u8,
             length: usize,
             index: usize,
-            place: *mut usize,
+            place: *mut u32,
             id: *mut u32,
             size: *mut u32,
             word: *mut u32,
-            value: *mut usize,
+            value: *mut u32,
         ) -> u32;
         pub fn vc_read(
             message: *const u8,
@@ -37,17 +37,17 @@ mod c {
             id: u32,
             occurrence: usize,
             wanted: usize,
-            place: *mut usize,
+            place: *mut u32,
             answer: *mut u32,
-            value: *mut usize,
-            count: *mut usize,
+            value: *mut u32,
+            count: *mut u32,
         ) -> u32;
         pub fn vc_bench(board: *mut Board);
         pub fn vc_serve(
             board: *mut Board,
             message: *mut u8,
             length: usize,
-            place: *mut usize,
+            place: *mut u32,
         ) -> u32;
     }
 }
@@ -55,74 +55,77 @@ mod c {
 /// What a number given back holds where a call forgets to give it.
 const UNSET: u32 = 0xDEAD_BEEF;
 
+/// A cursor as it crosses: a number of 32 bits.
+fn crossing(cursor: usize) -> u32 {
+    u32::try_from(cursor).expect("a cursor has 32 bits")
+}
+
 /// The outcome and the first cursor.
 pub fn start(buffer: &[u8]) -> (u32, usize) {
-    let mut cursor = UNSET as usize;
+    let mut cursor = UNSET;
     let outcome = unsafe { c::vc_start(buffer.as_ptr(), buffer.len(), &mut cursor) };
-    (outcome, cursor)
+    (outcome, cursor as usize)
 }
 
 /// Adds a tag and moves the cursor behind it.
 pub fn add(buffer: &mut [u8], cursor: &mut usize, id: u32, size: u32, request: &[u8]) -> u32 {
     let (start, length) = (buffer.as_mut_ptr(), buffer.len());
-    unsafe { c::vc_add(start, length, cursor, id, size, request.as_ptr(), request.len()) }
+    let mut at = crossing(*cursor);
+    let outcome =
+        unsafe { c::vc_add(start, length, &mut at, id, size, request.as_ptr(), request.len()) };
+    *cursor = at as usize;
+    outcome
 }
 
 /// The outcome and the message's size.
 pub fn finish(buffer: &mut [u8], cursor: usize) -> (u32, usize) {
-    let mut size = UNSET as usize;
-    let outcome = unsafe { c::vc_finish(buffer.as_mut_ptr(), buffer.len(), cursor, &mut size) };
-    (outcome, size)
+    let (start, length) = (buffer.as_mut_ptr(), buffer.len());
+    let mut size = UNSET;
+    let outcome = unsafe { c::vc_finish(start, length, crossing(cursor), &mut size) };
+    (outcome, size as usize)
 }
 
 /// The tag of this index, counted from 0.
 pub fn list(message: &[u8], index: usize) -> Listed {
-    let mut listed = Listed {
-        outcome: UNSET,
-        place: UNSET as usize,
-        id: UNSET,
-        size: UNSET,
-        word: UNSET,
-        value: UNSET as usize,
-    };
-    listed.outcome = unsafe {
+    let [mut place, mut id, mut size, mut word, mut value] = [UNSET; 5];
+    let outcome = unsafe {
         c::vc_list(
             message.as_ptr(),
             message.len(),
             index,
-            &mut listed.place,
-            &mut listed.id,
-            &mut listed.size,
-            &mut listed.word,
-            &mut listed.value,
+            &mut place,
+            &mut id,
+            &mut size,
+            &mut word,
+            &mut value,
         )
     };
-    listed
+    Listed { outcome, place: place as usize, id, size, word, value: value as usize }
 }
 
 /// The first `wanted` bytes of the answer of the tag of this id and occurrence.
 pub fn read(message: &[u8], id: u32, occurrence: usize, wanted: usize) -> Reading {
-    let mut reading = Reading {
-        outcome: UNSET,
-        place: UNSET as usize,
-        answer: UNSET,
-        value: UNSET as usize,
-        count: UNSET as usize,
-    };
-    reading.outcome = unsafe {
+    let [mut place, mut answer, mut value, mut count] = [UNSET; 4];
+    let outcome = unsafe {
         c::vc_read(
             message.as_ptr(),
             message.len(),
             id,
             occurrence,
             wanted,
-            &mut reading.place,
-            &mut reading.answer,
-            &mut reading.value,
-            &mut reading.count,
+            &mut place,
+            &mut answer,
+            &mut value,
+            &mut count,
         )
     };
-    reading
+    Reading {
+        outcome,
+        place: place as usize,
+        answer,
+        value: value as usize,
+        count: count as usize,
+    }
 }
 
 /// The bench record.
@@ -136,7 +139,7 @@ pub fn bench() -> Board {
 
 /// Serves the message on the board; the outcome and its place.
 pub fn serve(board: &mut Board, message: &mut [u8]) -> (u32, usize) {
-    let mut place = UNSET as usize;
+    let mut place = UNSET;
     let outcome = unsafe { c::vc_serve(board, message.as_mut_ptr(), message.len(), &mut place) };
-    (outcome, place)
+    (outcome, place as usize)
 }

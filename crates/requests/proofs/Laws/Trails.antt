@@ -8,6 +8,7 @@ use denote.Enum.Declared.{tagOf}
 use types.Run.{OneOf}
 use lib.ListN.{length, take, drop}
 use Rattle.words.proofs.Laws.Agree.{drop-later, part-before}
+use Rattle.message.proofs.Laws.Bounds.{Inside, walk-inside}
 use Rattle.message.proofs.Laws.Follows.{Follows, follows, follows-walk, follows-same}
 use Rattle.message.proofs.Laws.Steps.{Found, found, step-same}
 use Rattle.message.proofs.Laws.Walks.{walk-tag, walk-stop}
@@ -71,3 +72,17 @@ request-before m m′ t q l e = rw (part-before q (t .at + tagHeader) (t .size) 
 pub answered-passed : (m : List ℕ) (t : Tag) → 0x8000_0000 ≤ t .word → requestOf m t ≡ passed
 unfolding requestOf requestBy
 answered-passed m t h = rw (le-leb 0x8000_0000 (t .word) h)
+
+-- it ends within the size
+cut-inside : (m : List ℕ) (size : ℕ) (ts : List Tag) (e : Ending) → Inside size ts → e .place ≤ size → cut m ts e .ending .place ≤ size
+cut-inside m size [] e s h = h
+cut-inside m size (t ∷ ts) e s h = go (requestOf m t) (cut-inside m size ts e (s .1) h)
+  where
+    go : (r : Request) → cut m ts e .ending .place ≤ size → cutBy r t (cut m ts e) .ending .place ≤ size
+    go passed k = k
+    go short k = let w = s .0 in omega arith
+    go (asks q bytes) k = k
+
+pub trail-inside : (m : List ℕ) (size p : ℕ) → Walking m size p → trail m size p .ending .place ≤ size
+unfolding trail
+trail-inside m size p w = let s = walk-inside m size p w in cut-inside m size (walkFrom m size p .tags) (walkFrom m size p .ending) (s .0) (s .1)

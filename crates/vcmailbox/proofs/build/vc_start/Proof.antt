@@ -1,4 +1,5 @@
 use borrow.Author.Needs.{needs}
+use Rattle.vcmailbox.proofs.Fits.{start-cursor}
 use Rattle.vcmailbox.proofs.Laws.{start-given}
 use Rattle.vcmailbox.proofs.build.vc_start.Statement.{statement}
 use Rattle.vcmailbox.proofs.build.vc_start.Tie as tie
@@ -6,8 +7,11 @@ use Rattle.vcmailbox.proofs.build.vc_start.Tie as tie
 start-requires : tie.Need-start-requires
 start-requires c κs = search needs
 
+cast-cursor : tie.Need-cast-cursor
+cast-cursor c = start-cursor _ (c .before .before .start .ensures)
+
 returns : tie.Need-returns
 returns c = search start-given
 
 pub vc-start-spec : {M : Type 1} → statement M
-vc-start-spec = tie.close (tie.spec start-requires returns)
+vc-start-spec = tie.close (tie.spec start-requires cast-cursor returns)

@@ -1,0 +1,49 @@
+-- The offsets, counts and cursors that cross fit 32 bits: none is above the largest message, but for a cursor that a refused add gives back.
+use mathlib.Core.List.{List}
+use mathlib.Core.Path.{_≡_, ap, subst, sym}
+use Prim.Native.Nat.{ℕ, _≤_, _<_, _^_, _-_}
+use native.Mathlib.Omega.{arith}
+use mir.Syntax.{w32}
+use mir.Val.{Fits}
+use Rattle.message.proofs.Laws.Bounds.{listed-inside, found-inside, start-inside, add-inside, finish-inside}
+use Rattle.message.specs.Builder.{Call, leaves, started, added, finished}
+use Rattle.message.specs.Lister.{listed}
+use Rattle.message.specs.Reader.{found}
+use Rattle.message.specs.Sizes.{largest}
+use Rattle.message.specs.declared.builder.Built.{Built}
+use Rattle.message.specs.declared.builder.Cursor.{Cursor}
+use Rattle.message.specs.declared.builder.Finished.{Finished}
+use Rattle.message.specs.declared.lister.Listed.{Listed}
+use Rattle.message.specs.declared.reader.Reading.{Reading}
+
+inside : {n k : ℕ} → n ≡ k → k ≤ largest → Fits w32 n
+inside e h = record { fits = omega arith }
+
+module _ (m : List ℕ) (i : ℕ) {r : Listed} (e : r ≡ listed m i) where
+  pub list-place : Fits w32 (r .place)
+  list-place = inside (ap (λ (x : Listed). x .place) e) (listed-inside m i .0)
+
+  pub list-value : Fits w32 (r .value)
+  list-value = inside (ap (λ (x : Listed). x .value) e) (listed-inside m i .1)
+
+module _ (m : List ℕ) (id n wanted : ℕ) {r : Reading} (e : r ≡ found m id n wanted) where
+  pub read-place : Fits w32 (r .place)
+  read-place = inside (ap (λ (x : Reading). x .place) e) (found-inside m id n wanted .place)
+
+  pub read-value : Fits w32 (r .value)
+  read-value = inside (ap (λ (x : Reading). x .value) e) (found-inside m id n wanted .value)
+
+  pub read-count : Fits w32 (r .count)
+  read-count = inside (ap (λ (x : Reading). x .count) e) (found-inside m id n wanted .count)
+
+pub start-cursor : (m : List ℕ) {r : Built} → r ≡ started m → Fits w32 (r .cursor .at)
+start-cursor m e = inside (ap (λ (x : Built). x .cursor .at) e) (start-inside m)
+
+pub add-cursor : (m : List ℕ) (c : Cursor) (id size : ℕ) (request : List ℕ) {m₁ : List ℕ} {r : Built} → leaves m₁ r ≡ added m c id size request → Fits w32 (c .at) → Fits w32 (r .cursor .at)
+add-cursor m c id size request {m₁} {r} e f =
+    let is : r .cursor .at ≡ added m c id size request .answer .cursor .at = ap (λ (x : Call Built). x .answer .cursor .at) e in
+    let k = add-inside m c id size request {n = 2 ^ 32 - 1} (omega arith) (let w = f .fits in omega arith) in
+    record { fits = omega arith }
+
+pub finish-size : (m : List ℕ) (c : Cursor) {m₁ : List ℕ} {r : Finished} → leaves m₁ r ≡ finished m c → Fits w32 (r .size)
+finish-size m c e = inside (ap (λ (x : Call Finished). x .answer .size) e) (finish-inside m c)
