@@ -1,11 +1,12 @@
 -- The offsets, counts and cursors that cross fit 32 bits: none is above the largest message, but for a cursor that a refused add gives back.
 use mathlib.Core.List.{List}
-use mathlib.Core.Path.{_≡_, ap, subst, sym}
-use Prim.Native.Nat.{ℕ, _≤_, _<_, _^_, _-_}
+use mathlib.Core.Path.{_≡_, ap}
+use Prim.Native.Nat.{ℕ, _≤_, _^_, _-_}
 use native.Mathlib.Omega.{arith}
 use mir.Syntax.{w32}
 use mir.Val.{Fits}
-use Rattle.message.proofs.Laws.Bounds.{listed-inside, found-inside, start-inside, add-inside, finish-inside}
+use Rattle.message.proofs.Laws.Bounds.{listed-inside, start-inside, add-inside, finish-inside}
+use Rattle.message.proofs.Laws.Shown.{InsideReading, found-inside}
 use Rattle.message.specs.Builder.{Call, leaves, started, added, finished}
 use Rattle.message.specs.Lister.{listed}
 use Rattle.message.specs.Reader.{found}
@@ -27,14 +28,17 @@ module _ (m : List ℕ) (i : ℕ) {r : Listed} (e : r ≡ listed m i) where
   list-value = inside (ap (λ (x : Listed). x .value) e) (listed-inside m i .1)
 
 module _ (m : List ℕ) (id n wanted : ℕ) {r : Reading} (e : r ≡ found m id n wanted) where
+  within : InsideReading largest (found m id n wanted)
+  within = found-inside m largest (λ size w. w .most) id n wanted
+
   pub read-place : Fits w32 (r .place)
-  read-place = inside (ap (λ (x : Reading). x .place) e) (found-inside m id n wanted .place)
+  read-place = inside (ap (λ (x : Reading). x .place) e) (within .place)
 
   pub read-value : Fits w32 (r .value)
-  read-value = inside (ap (λ (x : Reading). x .value) e) (found-inside m id n wanted .value)
+  read-value = let k = within .part in inside (ap (λ (x : Reading). x .value) e) (omega arith)
 
   pub read-count : Fits w32 (r .count)
-  read-count = inside (ap (λ (x : Reading). x .count) e) (found-inside m id n wanted .count)
+  read-count = let k = within .part in inside (ap (λ (x : Reading). x .count) e) (omega arith)
 
 pub start-cursor : (m : List ℕ) {r : Built} → r ≡ started m → Fits w32 (r .cursor .at)
 start-cursor m e = inside (ap (λ (x : Built). x .cursor .at) e) (start-inside m)
