@@ -8,7 +8,7 @@ use Rattle.words.specs.Numbers.{word}
 use Rattle.words.specs.Put.{zeros}
 use Rattle.message.proofs.Laws.Opening.{opened-good}
 use Rattle.message.proofs.Laws.Steps.{step-end}
-use Rattle.message.proofs.Laws.Walks.{walk-tag, walk-end}
+use Rattle.message.proofs.Laws.Walks.{walk-tag, walk-stop}
 use Rattle.message.specs.Lister.{listed, listedOf, unlisted, nth}
 use Rattle.message.specs.Outcomes.{done, noSuchTag}
 use Rattle.message.specs.Sizes.{header}
@@ -39,7 +39,7 @@ module _ (m : List ℕ) (size c : ℕ) (inside : c < size) (end : word m c ≡ 0
 
   behind : (adds : List Add) (p : ℕ) → Holds m p adds c → (i : ℕ) → length adds ≤ i → nth i (walkFrom m size p) ≡ unlisted noSuchTag 0
   unfolding notMet
-  behind [] p h i l = rw (h, walk-end m size c stops)
+  behind [] p h i l = rw (h, walk-stop m size c Step.End tt stops)
   behind (a ∷ adds) p h zero l = absurd (omega arith)
   behind (a ∷ adds) p h (suc i) l =
       let q = holds-le m (tagEnd p (a .size)) adds c (h .2) in

@@ -27,6 +27,16 @@ walk-enough (suc f) (suc g) m size p (Step.Tag t q) e a b =
     let h = found m size p e in
     ap (more t) (walk-enough f g m size q (step m size q) refl (omega arith) (omega arith))
 
+abbrev pub IsStop : Step → Type 0
+IsStop Step.End = Unit {0}
+IsStop (Step.Fault o p) = Unit {0}
+IsStop (Step.Tag t q) = ⊥
+
+pub no-tag : (s : Step) → OneOf (1 ∷ 2 ∷ []) (tagOf Step.the-type s) → IsStop s
+no-tag Step.End o = tt
+no-tag (Step.Fault n q) o = tt
+no-tag (Step.Tag t q) o = absurd (⊎-elim (λ z. omega arith) (λ z. omega arith) o)
+
 module _ (m : List ℕ) (size p : ℕ) where
   -- at a tag the walk goes on at the next place
   pub walk-tag : {t : Tag} {next : ℕ} → step m size p ≡ Step.Tag t next → walkFrom m size p ≡ more t (walkFrom m size next)
@@ -36,12 +46,8 @@ module _ (m : List ℕ) (size p : ℕ) where
       rw e (ap (more t) (walk-enough size (suc size) m size next (step m size next) refl (omega arith) (omega arith)))
 
   -- a step that is no tag ends it
-  pub walk-stop : (s : Step) → OneOf (1 ∷ 2 ∷ []) (tagOf Step.the-type s) → step m size p ≡ s → walkFrom m size p ≡ stopped s
+  pub walk-stop : (s : Step) → IsStop s → step m size p ≡ s → walkFrom m size p ≡ stopped s
   unfolding walkFrom
-  walk-stop Step.End o e = rw e
-  walk-stop (Step.Fault n q) o e = rw e
-  walk-stop (Step.Tag t q) o e = absurd (⊎-elim (λ z. omega arith) (λ z. omega arith) o)
-
-  pub walk-end : step m size p ≡ Step.End → walkFrom m size p ≡ stopped Step.End
-  unfolding walkFrom
-  walk-end e = rw e
+  walk-stop Step.End i e = rw e
+  walk-stop (Step.Fault n q) i e = rw e
+  walk-stop (Step.Tag t q) i e = absurd i

@@ -11,7 +11,7 @@ use Rattle.words.proofs.Laws.Agree.{drop-later, part-before}
 use Rattle.message.proofs.Laws.Bounds.{Inside, walk-inside}
 use Rattle.message.proofs.Laws.Follows.{Follows, follows, follows-walk, follows-same}
 use Rattle.message.proofs.Laws.Steps.{Found, found, step-same}
-use Rattle.message.proofs.Laws.Walks.{walk-tag, walk-stop}
+use Rattle.message.proofs.Laws.Walks.{no-tag, walk-tag, walk-stop}
 use Rattle.message.proofs.walk.Step
 use Rattle.message.specs.Sizes.{tagHeader}
 use Rattle.message.specs.Walk.{Walk, step, endingOf, walkFrom, Walking}
@@ -25,7 +25,7 @@ module _ (m : List ℕ) (size p : ℕ) where
   -- a step that is no tag ends it
   pub trail-stop : (s : Step) → OneOf (1 ∷ 2 ∷ []) (tagOf Step.the-type s) → step m size p ≡ s → trail m size p ≡ ends (endingOf s)
   unfolding trail
-  trail-stop s o e = ap (λ (w : Walk). cut m (w .tags) (w .ending)) (walk-stop m size p s o e)
+  trail-stop s o e = ap (λ (w : Walk). cut m (w .tags) (w .ending)) (walk-stop m size p s (no-tag s o) e)
 
   -- at a tag its request decides
   pub trail-tag : {t : Tag} {next : ℕ} → step m size p ≡ Step.Tag t next → trail m size p ≡ cutBy (requestOf m t) t (trail m size next)
