@@ -5,7 +5,7 @@ use mathlib.Core.Path.{_≡_, refl}
 use Prim.Native.Nat.{ℕ}
 use lib.Count.{onesIn}
 use Rattle.board.specs.Bench.{benchDisplay}
-use Rattle.board.specs.Display.{pitchOf, pitch, need, sides, depths, offsets, possible, supported}
+use Rattle.board.specs.Display.{pitch, need, sides, depths, offsets, possible, supported}
 use Rattle.board.specs.declared.display.Display.{Display}
 use Rattle.board.specs.declared.facts.Span.{Span}
 use Rattle.table.specs.declared.kinds.FrameTag.{FrameTag}
@@ -25,12 +25,10 @@ pub record Asked : Type 0 where
 
 pub data Question : Type 0 where
   Alignment : (a : ℕ) → Question
-  Row : (width depth : ℕ) → Question
   Group : Display → List Asked → Question
 
 pub data Reply : Type 0 where
   Good : Bool → Reply
-  Bytes : ℕ → Reply
   Told : List Answer → (afterwards : Display) → Reply
 
 pub record Case : Type 0 where
@@ -50,7 +48,6 @@ answers r ts = cond (r .answered) (map (λ (t : Asked). groupAnswer r (t .tag)) 
 
 abbrev pub replyTo : Question → Reply
 replyTo (Alignment a) = Good (oneBit a)
-replyTo (Row width depth) = Bytes (pitchOf width depth)
 replyTo (Group d ts) = Told (answers (decision d ts) ts) (decision d ts .display)
 
 abbrev pub case : Question → Reply → Case
@@ -108,8 +105,6 @@ cases =
     ∷ case (Alignment 1) (Good true)
     ∷ case (Alignment 16) (Good true)
     ∷ case (Alignment 0x8000_0000) (Good true)
-    ∷ case (Row 641 24) (Bytes 1952)
-    ∷ case (Row 1 8) (Bytes 32)
     -- two messages: the sets, then the buffer
     ∷ case (Group benchDisplay (set Setting.Physical 640 480 ∷ set Setting.Virtual 640 480 ∷ set Setting.Depth 24 0 ∷ [])) (Told (Answer.Pair 640 480 ∷ Answer.Pair 640 480 ∷ Answer.Word 24 ∷ []) lab)
     ∷ case (Group lab (allocate 16 ∷ [])) (Told (place ∷ []) standing)

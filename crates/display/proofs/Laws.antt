@@ -1,5 +1,6 @@
 pub mod Align
 pub mod Decision
 pub mod Kept
+pub mod Lengths
 pub mod Operation
 pub mod Told

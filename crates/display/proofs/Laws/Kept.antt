@@ -53,13 +53,6 @@ module _ (d : Display) (o : Operation) (v : validDisplay d ≡ true) where
   pub decided-valid : validDisplay (decided d o .display) ≡ true
   decided-valid = decided-cases d o (λ (r : Decision). validDisplay (r .display) ≡ true) v v (λ s. v) carried-valid
 
-  -- ---- the settings that are answered
-  pub decided-shown : possible (decided d o .shown) ≡ true
-  decided-shown = decided-cases d o (λ (r : Decision). possible (r .shown) ≡ true) (valid-possible d v) (valid-possible d v) (λ s. supported-is _ _ s .0) (accepted-possible d o)
-
-pub decided-pitch : (d : Display) (o : Operation) → decided d o .pitch ≡ pitch (decided d o .shown)
-decided-pitch d o = decided-cases d o (λ (r : Decision). r .pitch ≡ pitch (r .shown)) refl refl (λ s. refl) (λ e. refl)
-
 -- ---- what leaves the display as it is
 module _ (d : Display) (o : Operation) where
   tested-same : (others isSupported : Bool) → supported (d .region .size) (o .proposal) ≡ isSupported → decidedBy true others d o .display ≡ d

@@ -156,8 +156,3 @@ clock-set-get c = (refl, refl)
 pub voltage-set-get : (v : Voltage) → voltageValue VoltageTag.Set v ≡ voltageValue VoltageTag.Get v
 unfolding voltageValue
 voltage-set-get v = refl
-
--- a set rate is clamped: 2,000,000,000 Hz on a clock of at most 1,500,000,000
-pub clamped-rate : clockValue ClockTag.SetRate (clockAfter ClockTag.SetRate 2000000000 (record { state = record { exists = true; on = true }; rate = 600000000; min = 600000000; max = 1500000000 })) ≡ 1500000000
-unfolding clockValue clockAfter settled present
-clamped-rate = refl

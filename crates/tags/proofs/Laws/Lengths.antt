@@ -1,6 +1,6 @@
 -- An answer has its row's length; the command line has its own.
-use mathlib.Core.List.{List, [], _∷_}
-use mathlib.Core.Path.{_≡_, refl}
+use mathlib.Core.List.{map}
+use mathlib.Core.Path.{_≡_}
 use Prim.Native.Nat.{ℕ, _≤_}
 use lib.ListN.{length}
 use lib.Seq.{length-take-le}
@@ -28,41 +28,7 @@ factLength f n FactTag.Dma = n
 abbrev pub lengthOf : Facts → Entry → ℕ
 lengthOf f e = elim (e .kind) [ Kind.Fact t ↦ factLength f (e .answer) t | Kind.Power t ↦ e .answer | Kind.Clock t ↦ e .answer | Kind.Voltage t ↦ e .answer | Kind.Temperature t ↦ e .answer | Kind.Frame t ↦ e .answer ]
 
--- the entry's tag answers that many bytes
-abbrev pub Answers : (a x : ℕ) → Board → Entry → Type 0
-Answers a x b e = length (answerBytes (b .facts) (b .line) (outsideAnswer (e .kind) a x b)) ≡ lengthOf (b .facts) e
-
-abbrev pub Each : (Entry → Type 0) → List Entry → Type 0
-Each P [] = Unit {0}
-Each P (e ∷ es) = P e × Each P es
-
-pub lengths : (a x : ℕ) (b : Board) → length (b .facts .mac) ≡ 6 → b .facts .characters ≤ length (b .line) → Each (Answers a x b) outsideTags
+pub lengths : (a x : ℕ) (b : Board) → length (b .facts .mac) ≡ 6 → b .facts .characters ≤ length (b .line)
+    → map (λ (e : Entry). length (answerBytes (b .facts) (b .line) (outsideAnswer (e .kind) a x b))) outsideTags ≡ map (lengthOf (b .facts)) outsideTags
 unfolding outsideTags answerBytes outsideAnswer factAnswer
-lengths a x b mac line = (
-  refl,
-  (
-    refl,
-    (
-      refl,
-      (
-        mac,
-        (
-          refl,
-          (
-            refl,
-            (
-              refl,
-              (
-                length-take-le (b .facts .characters) (b .line) line,
-                (
-                  refl,
-                  (refl, (refl, (refl, (refl, (refl, (refl, (refl, (refl, (refl, (refl, (refl, (refl, (refl, (refl, (refl, tt))))))))))))))),
-                ),
-              ),
-            ),
-          ),
-        ),
-      ),
-    ),
-  ),
-)
+lengths a x b mac line = rw (mac, length-take-le (b .facts .characters) (b .line) line)

@@ -22,8 +22,3 @@ min-offset-is mv h = go (ltb mv 1200) refl
     go : (b : Bool) → ltb mv 1200 ≡ b → ((mv + 24) / 25 + 0xffff_ffd0) % 0x1_0000_0000 ≡ cond b (minus (stepsDown (1200 - mv))) (stepsUp (mv - 1200))
     go true e = omega (arith, ltb-true mv 1200 e)
     go false e = omega (arith, ltb-false mv 1200 e)
-
--- the offsets of 1,199 mV are -1 and 0, those of 1,226 mV 1 and 2
-pub examples : (maxOffset 1199 ≡ 0xffff_ffff) × (minOffset 1199 ≡ 0) × (maxOffset 1226 ≡ 1) × (minOffset 1226 ≡ 2)
-unfolding maxOffset minOffset
-examples = (refl, refl, refl, refl)
