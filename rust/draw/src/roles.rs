@@ -1,8 +1,13 @@
 //! What each word of a message is.
 
+use crate::outcomes::{BAD_SIZE, TOO_FEW};
+use crate::words::word;
+
 #[derive(Clone, Copy, PartialEq)]
 pub enum Role {
     Size,
+    /// A size word that is not good, and the size by which the other words are named.
+    WrongSize(usize),
     Code,
     /// A tag's id, the size of its value, and its tag word, which is told the size.
     Id,
@@ -45,14 +50,14 @@ fn tags(bytes: &[u8]) -> (Vec<Role>, u32) {
     }
 }
 
-/// What each of the whole words of these bytes is.
-pub fn of(bytes: &[u8]) -> Vec<Role> {
+/// What each of the whole words is, by a size word that is good.
+fn by_size(bytes: &[u8]) -> Vec<Role> {
     let count = bytes.len() / 4;
+    let size = word(bytes, 0) as usize;
     let mut roles = vec![Role::Size, Role::Code];
     let (tags, outcome) = tags(bytes);
     roles.extend(tags);
     let rest = match outcome {
-        4 => Role::Behind,
         5 => {
             roles.extend([Role::Fault, Role::ValueSize]);
             Role::Unread
@@ -61,15 +66,26 @@ pub fn of(bytes: &[u8]) -> Vec<Role> {
             roles.push(Role::End);
             Role::Padding
         }
-        _ => Role::Unread,
+        _ => Role::Behind,
     };
-    if let 5 | 11 = outcome {
-        let size = u32::from_le_bytes([bytes[0], bytes[1], bytes[2], bytes[3]]) as usize;
-        roles.resize(size / 4, rest);
-        roles.resize(count, Role::Behind);
-    } else {
-        roles.resize(count.max(2), rest);
-    }
-    roles.truncate(count);
+    roles.resize(size / 4, rest);
+    roles.resize(count, Role::Behind);
     roles
+}
+
+/// What each of the whole words of these bytes is. Where the size word is wrong, they are named as if it
+/// were the size of all of them.
+pub fn of(bytes: &[u8]) -> Vec<Role> {
+    let count = bytes.len() / 4;
+    match vcmailbox::list(bytes, 0).outcome {
+        TOO_FEW => [Role::Size, Role::Code][..count].to_vec(),
+        BAD_SIZE => {
+            let mut mended = bytes.to_vec();
+            mended[..4].copy_from_slice(&(count as u32 * 4).to_le_bytes());
+            let mut roles = by_size(&mended);
+            roles[0] = Role::WrongSize(count * 4);
+            roles
+        }
+        _ => by_size(bytes),
+    }
 }
