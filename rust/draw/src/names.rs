@@ -51,8 +51,12 @@ fn frame(id: u32) -> Option<&'static str> {
 pub fn code(word: u32) -> &'static str {
     match word {
         0 => "request",
-        0x8000_0000 => "reply, all was done",
+        0x8000_0000 => "reply, no fault",
         0x8000_0001 => "reply, cut short by a fault",
         _ => "neither a request nor a reply",
     }
+}
+
+pub fn is_reply(code: u32) -> bool {
+    matches!(code, 0x8000_0000 | 0x8000_0001)
 }

@@ -2,21 +2,23 @@
 
 use crate::names;
 use crate::roles::{self, Role};
-use crate::words::{hex, word};
+use crate::words::{count, hex, word};
 use std::io::{self, Write};
 
 /// Lines alike behind a message are drawn once from this many on.
 const ALIKE: usize = 4;
 
-fn tag_word(word: u32, size: u32) -> String {
+fn tag_word(word: u32, size: u32, reply: bool) -> String {
     let length = word & 0x7fff_ffff;
-    if word == length {
-        return "  tag word, request".to_string();
-    }
-    if length > size {
-        return format!("  tag word, answer of {length} bytes, {size} stored");
-    }
-    format!("  tag word, answer of {length} bytes")
+    let text = if word != length {
+        let stored = if length > size { format!(", {size} stored") } else { String::new() };
+        format!("answer of {}{stored}", count(length as usize))
+    } else if reply {
+        "not answered".to_string()
+    } else {
+        "request".to_string()
+    };
+    format!("  tag word, {text}")
 }
 
 fn value(word: u32, bytes: usize) -> String {
@@ -36,7 +38,7 @@ fn describe(role: Role, word: u32) -> String {
         Role::Code => format!("code, {}", names::code(word)),
         Role::Id => format!("tag, {}", names::tag(word)),
         Role::ValueSize => format!("  value size {word}"),
-        Role::TagWord(size) => tag_word(word, size),
+        Role::TagWord(size, reply) => tag_word(word, size, reply),
         Role::Value(bytes) => value(word, bytes),
         Role::End => "end".to_string(),
         Role::Padding => "padding".to_string(),

@@ -1,5 +1,6 @@
 //! What each word of a message is.
 
+use crate::names::is_reply;
 use crate::outcomes::{BAD_SIZE, TOO_FEW};
 use crate::words::word;
 
@@ -9,10 +10,11 @@ pub enum Role {
     /// A size word that is not good, and the size by which the other words are named.
     WrongSize(usize),
     Code,
-    /// A tag's id, the size of its value, and its tag word, which is told the size.
+    /// A tag's id and the size of its value.
     Id,
     ValueSize,
-    TagWord(u32),
+    /// A tag word, with the size of the tag's value, and whether the message is a reply.
+    TagWord(u32, bool),
     /// A word with this many bytes of a tag's value.
     Value(usize),
     End,
@@ -26,8 +28,8 @@ pub enum Role {
 }
 
 /// The words of a tag with a value of `size` bytes.
-fn tag(size: u32) -> Vec<Role> {
-    let mut roles = vec![Role::Id, Role::ValueSize, Role::TagWord(size)];
+fn tag(size: u32, reply: bool) -> Vec<Role> {
+    let mut roles = vec![Role::Id, Role::ValueSize, Role::TagWord(size, reply)];
     let mut left = size as usize;
     while left > 0 {
         roles.push(Role::Value(left.min(4)));
@@ -38,6 +40,7 @@ fn tag(size: u32) -> Vec<Role> {
 
 /// The words of the tags, and the outcome of the lister behind the last of them.
 fn tags(bytes: &[u8]) -> (Vec<Role>, u32) {
+    let reply = is_reply(word(bytes, 4));
     let mut roles = Vec::new();
     let mut index = 0;
     loop {
@@ -45,7 +48,7 @@ fn tags(bytes: &[u8]) -> (Vec<Role>, u32) {
         if listed.outcome != 0 {
             return (roles, listed.outcome);
         }
-        roles.extend(tag(listed.size));
+        roles.extend(tag(listed.size, reply));
         index += 1;
     }
 }
