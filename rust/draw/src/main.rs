@@ -8,9 +8,11 @@ mod names;
 mod outcomes;
 mod picture;
 mod roles;
+mod title;
 mod words;
 
 use file::{Sent, MOST};
+use std::ffi::{OsStr, OsString};
 use std::io::{self, IsTerminal, Write};
 use std::process::ExitCode;
 
@@ -40,16 +42,12 @@ fn second_head(outcome: u32, fault: Option<usize>) -> &'static str {
     }
 }
 
-fn draw(out: &mut impl Write, path: &str, sent: &Sent, colour: bool) -> io::Result<()> {
+fn draw(out: &mut impl Write, path: &OsStr, sent: &Sent, colour: bool) -> io::Result<()> {
     let (outcome, place, reply) = served(sent);
     let fault = fault_in(outcome, place, &reply);
-    if sent.more {
-        writeln!(out, "{path}: more than {MOST} bytes")?;
-        writeln!(out, "\nThe request (its first {MOST} bytes)\n")?;
-    } else {
-        writeln!(out, "{path}: {}", words::count(sent.bytes.len()))?;
-        writeln!(out, "\nThe request\n")?;
-    }
+    let part = if sent.more { format!(" (its first {MOST} bytes)") } else { String::new() };
+    writeln!(out, "{}", title::title(path, sent))?;
+    writeln!(out, "\nThe request{part}\n")?;
     picture::draw(out, &sent.bytes, &sent.bytes, None, colour)?;
     writeln!(out, "\n{}\n", second_head(outcome, fault))?;
     picture::draw(out, &reply, &sent.bytes, fault, colour)?;
@@ -57,15 +55,15 @@ fn draw(out: &mut impl Write, path: &str, sent: &Sent, colour: bool) -> io::Resu
 }
 
 fn main() -> ExitCode {
-    let arguments: Vec<String> = std::env::args().skip(1).collect();
+    let arguments: Vec<OsString> = std::env::args_os().skip(1).collect();
     let [path] = arguments.as_slice() else {
         eprintln!("name a message file: draw FILE");
         return ExitCode::from(2);
     };
-    let sent = match file::read(path.as_ref()) {
+    let sent = match file::read(path) {
         Ok(sent) => sent,
         Err(error) => {
-            eprintln!("{path}: {error}");
+            eprintln!("{}: {error}", title::printable(path));
             return ExitCode::FAILURE;
         }
     };
