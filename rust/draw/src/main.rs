@@ -9,6 +9,7 @@ mod outcomes;
 mod picture;
 mod roles;
 mod title;
+mod values;
 mod words;
 
 use file::{Sent, MOST};

@@ -2,31 +2,25 @@
 
 use crate::names;
 use crate::roles::{self, Role};
+use crate::values::value;
 use crate::words::{count, hex, word};
 use std::io::{self, Write};
 
 /// Lines alike behind a message are drawn once from this many on.
 const ALIKE: usize = 4;
 
-fn tag_word(word: u32, size: u32, reply: bool) -> String {
-    let length = word & 0x7fff_ffff;
-    let text = if word != length {
+/// The tag word of a tag with a value of `size` bytes.
+fn tag_word(word: u32, size: usize, reply: bool) -> String {
+    let length = (word & 0x7fff_ffff) as usize;
+    let text = if word >> 31 == 1 {
         let stored = if length > size { format!(", {size} stored") } else { String::new() };
-        format!("answer of {}{stored}", count(length as usize))
+        format!("answer of {}{stored}", count(length))
     } else if reply {
         "not answered".to_string()
     } else {
         "request".to_string()
     };
     format!("  tag word, {text}")
-}
-
-fn value(word: u32, bytes: usize) -> String {
-    match bytes {
-        4 => format!("  value {word}"),
-        1 => "  value, 1 byte, and padding".to_string(),
-        _ => format!("  value, {bytes} bytes, and padding"),
-    }
 }
 
 fn describe(role: Role, word: u32) -> String {
@@ -39,7 +33,7 @@ fn describe(role: Role, word: u32) -> String {
         Role::Id => format!("tag, {}", names::tag(word)),
         Role::ValueSize => format!("  value size {word}"),
         Role::TagWord(size, reply) => tag_word(word, size, reply),
-        Role::Value(bytes) => value(word, bytes),
+        Role::Value { tag, index, count } => value(tag, index, count, word),
         Role::End => "end".to_string(),
         Role::Padding => "padding".to_string(),
         Role::Fault => format!("tag, {}, runs over", names::tag(word)),
@@ -106,6 +100,9 @@ pub fn draw(
             writeln!(out, "     .. {} more words like it", same - 1)?;
             index += same - 1;
         }
+    }
+    if bytes.is_empty() {
+        writeln!(out, "        no words")?;
     }
     if bytes.len() % 4 != 0 {
         loose(out, bytes, count * 4)?;

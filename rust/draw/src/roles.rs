@@ -14,9 +14,13 @@ pub enum Role {
     Id,
     ValueSize,
     /// A tag word, with the size of the tag's value, and whether the message is a reply.
-    TagWord(u32, bool),
-    /// A word with this many bytes of a tag's value.
-    Value(usize),
+    TagWord(usize, bool),
+    /// The word of this index in the value of this tag, and how many of its bytes are the value's.
+    Value {
+        tag: u32,
+        index: usize,
+        count: usize,
+    },
     End,
     /// Behind the end word.
     Padding,
@@ -27,13 +31,12 @@ pub enum Role {
     Behind,
 }
 
-/// The words of a tag with a value of `size` bytes.
-fn tag(size: u32, reply: bool) -> Vec<Role> {
+/// The words of a tag of this id, with a value of `size` bytes.
+fn tag(id: u32, size: usize, reply: bool) -> Vec<Role> {
     let mut roles = vec![Role::Id, Role::ValueSize, Role::TagWord(size, reply)];
-    let mut left = size as usize;
-    while left > 0 {
-        roles.push(Role::Value(left.min(4)));
-        left -= left.min(4);
+    for index in 0..size.div_ceil(4) {
+        let count = (size - index * 4).min(4);
+        roles.push(Role::Value { tag: id, index, count });
     }
     roles
 }
@@ -48,7 +51,7 @@ fn tags(bytes: &[u8]) -> (Vec<Role>, u32) {
         if listed.outcome != 0 {
             return (roles, listed.outcome);
         }
-        roles.extend(tag(listed.size, reply));
+        roles.extend(tag(listed.id, listed.size as usize, reply));
         index += 1;
     }
 }
