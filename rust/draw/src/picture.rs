@@ -104,7 +104,7 @@ pub fn draw(
     if bytes.is_empty() {
         writeln!(out, "        no words")?;
     }
-    if bytes.len() % 4 != 0 {
+    if count * 4 < bytes.len() {
         loose(out, bytes, count * 4)?;
     }
     Ok(())
