@@ -32,25 +32,26 @@ fn fault_in(outcome: u32, place: usize, bytes: &[u8]) -> Option<usize> {
     (outcomes::is_fault(outcome) && place + 4 <= bytes.len()).then_some(place)
 }
 
-/// What stands above the second drawing.
-fn second_head(outcome: u32, fault: Option<usize>) -> &'static str {
+/// What stands above the first drawing, and above the second.
+fn heads(outcome: u32, fault: Option<usize>) -> [&'static str; 2] {
     if outcomes::is_refusal(outcome) {
-        "The message afterwards (refused, nothing changed)"
+        ["The message", "The message afterwards (refused, nothing changed)"]
     } else if fault.is_some() {
-        "The reply (* changed, ! fault)"
+        ["The request", "The reply (* changed, ! fault)"]
     } else {
-        "The reply (* changed)"
+        ["The request", "The reply (* changed)"]
     }
 }
 
 fn draw(out: &mut impl Write, path: &OsStr, sent: &Sent, colour: bool) -> io::Result<()> {
     let (outcome, place, reply) = served(sent);
     let fault = fault_in(outcome, place, &reply);
+    let [first, second] = heads(outcome, fault);
     let part = if sent.more { format!(" (its first {MOST} bytes)") } else { String::new() };
     writeln!(out, "{}", title::title(path, sent))?;
-    writeln!(out, "\nThe request{part}\n")?;
+    writeln!(out, "\n{first}{part}\n")?;
     picture::draw(out, &sent.bytes, &sent.bytes, None, colour)?;
-    writeln!(out, "\n{}\n", second_head(outcome, fault))?;
+    writeln!(out, "\n{second}\n")?;
     picture::draw(out, &reply, &sent.bytes, fault, colour)?;
     writeln!(out, "\n{}", outcomes::line(outcome, place, sent))
 }
