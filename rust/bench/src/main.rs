@@ -51,7 +51,7 @@ fn turn(request: &[u8], buffer: &mut [u8], serve: impl Fn(&mut Board, &mut [u8])
 fn line(name: &str, tags: usize, [proved, rust, copy]: [Times; 3]) {
     let a_tag = |time: f64| time / tags as f64;
     println!(
-        "{name:<19} {tags:>5} {:>7.0} {:>7.0} {:>6.0} {:>6.2} {:>6.2} {:>6.2} {:>7.2} {:>6.2}",
+        "{name:<19} {tags:>4} {:>6.0} {:>6.0} {:>5.0} {:>6.2} {:>6.2} {:>5.2} {:>7.2} {:>6.2}",
         proved.best,
         rust.best,
         copy.best,
@@ -132,9 +132,9 @@ fn reading(request: &Request) {
 }
 
 fn main() {
-    println!("{:<19} {:>5} {:^22} {:^20} {:^14}", "ns", "", "best turn", "a tag", "all turns");
+    println!("{:<19} {:>4} {:^19} {:^19} {:>14}", "ns", "", "best turn", "a tag", "all turns");
     println!(
-        "{:<19} {:>5} {:>7} {:>7} {:>6} {:>6} {:>6} {:>6} {:>7} {:>6}",
+        "{:<19} {:>4} {:>6} {:>6} {:>5} {:>6} {:>6} {:>5} {:>7} {:>6}",
         "", "tags", "proved", "Rust", "copy", "proved", "Rust", "ratio", "proved", "Rust"
     );
     let requests = messages::all();

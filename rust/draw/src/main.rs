@@ -3,36 +3,25 @@
 //!
 //! `draw FILE`
 
+mod file;
 mod names;
+mod outcomes;
 mod picture;
 mod roles;
+mod title;
+mod values;
+mod words;
 
-use std::fs::File;
-use std::io::{self, IsTerminal, Read, Write};
+use file::{Sent, MOST};
+use std::ffi::{OsStr, OsString};
+use std::io::{self, IsTerminal, Write};
 use std::process::ExitCode;
-
-/// No message is longer.
-const MOST: usize = 65_536;
-
-/// A message file: its bytes up to the most of a message, and whether it has more.
-struct Sent {
-    bytes: Vec<u8>,
-    more: bool,
-}
-
-fn sent(path: &str) -> io::Result<Sent> {
-    let mut bytes = Vec::new();
-    File::open(path)?.take(MOST as u64 + 1).read_to_end(&mut bytes)?;
-    let more = bytes.len() > MOST;
-    bytes.truncate(MOST);
-    Ok(Sent { bytes, more })
-}
 
 /// Serves a copy on the bench record: outcome, place, and the bytes afterwards.
 fn served(sent: &Sent) -> (u32, usize, Vec<u8>) {
     let mut reply = sent.bytes.clone();
     if sent.more {
-        return (names::BAD_SIZE, 0, reply);
+        return (outcomes::BAD_SIZE, 0, reply);
     }
     let (outcome, place) = vcmailbox::serve(&mut vcmailbox::bench(), &mut reply);
     (outcome, place, reply)
@@ -40,39 +29,43 @@ fn served(sent: &Sent) -> (u32, usize, Vec<u8>) {
 
 /// The place of a fault, where the file has a word there.
 fn fault_in(outcome: u32, place: usize, bytes: &[u8]) -> Option<usize> {
-    (names::is_fault(outcome) && place + 4 <= bytes.len()).then_some(place)
+    (outcomes::is_fault(outcome) && place + 4 <= bytes.len()).then_some(place)
 }
 
-fn draw(out: &mut impl Write, path: &str, sent: &Sent, colour: bool) -> io::Result<()> {
-    let (outcome, place, reply) = served(sent);
-    writeln!(
-        out,
-        "{path}: {} bytes{}",
-        sent.bytes.len(),
-        if sent.more { " and more" } else { "" }
-    )?;
-    let fault = fault_in(outcome, place, &reply);
-    let marked = if fault.is_some() { ", ! fault" } else { "" };
-    writeln!(out, "\nThe request\n")?;
-    picture::draw(out, &sent.bytes, &sent.bytes, None, colour)?;
-    writeln!(out, "\nThe reply (* changed{marked})\n")?;
-    picture::draw(out, &reply, &sent.bytes, fault, colour)?;
-    if sent.more {
-        writeln!(out, "\nThe file is longer than a message may be, {MOST} bytes.")?;
+/// What stands above the first drawing, and above the second.
+fn heads(outcome: u32, fault: Option<usize>) -> [&'static str; 2] {
+    if outcomes::is_refusal(outcome) {
+        ["The message", "The message afterwards (refused, nothing changed)"]
+    } else if fault.is_some() {
+        ["The request", "The reply (* changed, ! fault)"]
+    } else {
+        ["The request", "The reply (* changed)"]
     }
-    writeln!(out, "\n{}", names::outcome_line(outcome, place))
+}
+
+fn draw(out: &mut impl Write, path: &OsStr, sent: &Sent, colour: bool) -> io::Result<()> {
+    let (outcome, place, reply) = served(sent);
+    let fault = fault_in(outcome, place, &reply);
+    let [first, second] = heads(outcome, fault);
+    let part = if sent.more { format!(" (its first {MOST} bytes)") } else { String::new() };
+    writeln!(out, "{}", title::title(path, sent))?;
+    writeln!(out, "\n{first}{part}\n")?;
+    picture::draw(out, &sent.bytes, &sent.bytes, None, colour)?;
+    writeln!(out, "\n{second}\n")?;
+    picture::draw(out, &reply, &sent.bytes, fault, colour)?;
+    writeln!(out, "\n{}", outcomes::line(outcome, place, sent))
 }
 
 fn main() -> ExitCode {
-    let arguments: Vec<String> = std::env::args().skip(1).collect();
+    let arguments: Vec<OsString> = std::env::args_os().skip(1).collect();
     let [path] = arguments.as_slice() else {
         eprintln!("name a message file: draw FILE");
         return ExitCode::from(2);
     };
-    let sent = match sent(path) {
+    let sent = match file::read(path) {
         Ok(sent) => sent,
         Err(error) => {
-            eprintln!("{path}: {error}");
+            eprintln!("{}: {error}", title::printable(path));
             return ExitCode::FAILURE;
         }
     };

@@ -1,6 +1,4 @@
-//! What numbers are called: tags, codes and outcomes.
-
-pub const BAD_SIZE: u32 = 2;
+//! What numbers are called: tags and codes.
 
 /// A tag's name, or `unknown`.
 pub fn tag(id: u32) -> &'static str {
@@ -53,32 +51,12 @@ fn frame(id: u32) -> Option<&'static str> {
 pub fn code(word: u32) -> &'static str {
     match word {
         0 => "request",
-        0x8000_0000 => "reply, all was done",
+        0x8000_0000 => "reply, no fault",
         0x8000_0001 => "reply, cut short by a fault",
         _ => "neither a request nor a reply",
     }
 }
 
-/// Whether an outcome of serving is a fault, with a place in the message.
-pub fn is_fault(outcome: u32) -> bool {
-    matches!(outcome, 4..=6)
-}
-
-fn outcome(number: u32) -> &'static str {
-    match number {
-        0 => "done",
-        1 => "refused, fewer than 12 bytes",
-        2 => "refused, size not 12 to 65536, a multiple of 4, in the file",
-        3 => "refused, the code word is not 0, so this is no request",
-        4 => "fault, the tags reach the size without an end word",
-        5 => "fault, a tag runs over the size of the message",
-        6 => "fault, a tag's value is shorter than its request",
-        14 => "refused, the board record is not valid",
-        _ => "no outcome of serving",
-    }
-}
-
-/// The outcome in words, with its number and place.
-pub fn outcome_line(number: u32, place: usize) -> String {
-    format!("Outcome {number}, place {place}: {}", outcome(number))
+pub fn is_reply(code: u32) -> bool {
+    matches!(code, 0x8000_0000 | 0x8000_0001)
 }

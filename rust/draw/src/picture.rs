@@ -2,38 +2,38 @@
 
 use crate::names;
 use crate::roles::{self, Role};
+use crate::values::value;
+use crate::words::{count, hex, word};
 use std::io::{self, Write};
 
 /// Lines alike behind a message are drawn once from this many on.
 const ALIKE: usize = 4;
 
-fn tag_word(word: u32, size: u32) -> String {
-    let length = word & 0x7fff_ffff;
-    if word == length {
-        return "  tag word, request".to_string();
-    }
-    if length > size {
-        return format!("  tag word, answer of {length} bytes, {size} stored");
-    }
-    format!("  tag word, answer of {length} bytes")
-}
-
-fn value(word: u32, bytes: usize) -> String {
-    match bytes {
-        4 => format!("  value {word}"),
-        1 => "  value, 1 byte, and padding".to_string(),
-        _ => format!("  value, {bytes} bytes, and padding"),
-    }
+/// The tag word of a tag with a value of `size` bytes.
+fn tag_word(word: u32, size: usize, reply: bool) -> String {
+    let length = (word & 0x7fff_ffff) as usize;
+    let text = if word >> 31 == 1 {
+        let stored = if length > size { format!(", {size} stored") } else { String::new() };
+        format!("answer of {}{stored}", count(length))
+    } else if reply {
+        "not answered".to_string()
+    } else {
+        "request".to_string()
+    };
+    format!("  tag word, {text}")
 }
 
 fn describe(role: Role, word: u32) -> String {
     match role {
         Role::Size => format!("size {word}"),
+        Role::WrongSize(size) => {
+            format!("size {word}, wrong, the rest is named as if it were {size}")
+        }
         Role::Code => format!("code, {}", names::code(word)),
         Role::Id => format!("tag, {}", names::tag(word)),
         Role::ValueSize => format!("  value size {word}"),
-        Role::TagWord(size) => tag_word(word, size),
-        Role::Value(bytes) => value(word, bytes),
+        Role::TagWord(size, reply) => tag_word(word, size, reply),
+        Role::Value { tag, index, count } => value(tag, index, count, word),
         Role::End => "end".to_string(),
         Role::Padding => "padding".to_string(),
         Role::Fault => format!("tag, {}, runs over", names::tag(word)),
@@ -42,18 +42,9 @@ fn describe(role: Role, word: u32) -> String {
     }
 }
 
-/// The word at this place, as far as there are bytes.
-fn word_at(bytes: &[u8], at: usize) -> u32 {
-    let mut word = [0; 4];
-    let there = &bytes[at..bytes.len().min(at + 4)];
-    word[..there.len()].copy_from_slice(there);
-    u32::from_le_bytes(word)
-}
-
 /// Bytes of a last word that is not whole, in the order of the file.
 fn loose(out: &mut impl Write, bytes: &[u8], at: usize) -> io::Result<()> {
-    let digits: Vec<String> = bytes[at..].iter().map(|byte| format!("{byte:02x}")).collect();
-    writeln!(out, "{at:6}  {:<10} bytes that are no whole word", digits.join(" "))
+    writeln!(out, "{at:6}  {:<10} no whole word", hex(&bytes[at..]))
 }
 
 /// How many words from here on are alike and only fill up.
@@ -61,9 +52,8 @@ fn alike(bytes: &[u8], roles: &[Role], index: usize) -> usize {
     if !matches!(roles[index], Role::Padding | Role::Behind | Role::Unread) {
         return 1;
     }
-    let word = word_at(bytes, index * 4);
     (index..roles.len())
-        .take_while(|&i| roles[i] == roles[index] && word_at(bytes, i * 4) == word)
+        .take_while(|&i| roles[i] == roles[index] && word(bytes, i * 4) == word(bytes, index * 4))
         .count()
 }
 
@@ -97,13 +87,13 @@ pub fn draw(
     let mut index = 0;
     while index < count {
         let at = index * 4;
-        let word = word_at(bytes, at);
+        let now = word(bytes, at);
         let mark = match fault {
             Some(place) if place == at => '!',
-            _ if word != word_at(before, at) => '*',
+            _ if now != word(before, at) => '*',
             _ => ' ',
         };
-        line(out, at, word, mark, &describe(roles[index], word), colour)?;
+        line(out, at, now, mark, &describe(roles[index], now), colour)?;
         let same = alike(bytes, &roles, index);
         index += 1;
         if same > ALIKE {
@@ -111,7 +101,10 @@ pub fn draw(
             index += same - 1;
         }
     }
-    if bytes.len() % 4 != 0 {
+    if bytes.is_empty() {
+        writeln!(out, "        no words")?;
+    }
+    if count * 4 < bytes.len() {
         loose(out, bytes, count * 4)?;
     }
     Ok(())

@@ -1,15 +1,26 @@
 //! What each word of a message is.
 
+use crate::names::is_reply;
+use crate::outcomes::{BAD_SIZE, TOO_FEW};
+use crate::words::word;
+
 #[derive(Clone, Copy, PartialEq)]
 pub enum Role {
     Size,
+    /// A size word that is not good, and the size by which the other words are named.
+    WrongSize(usize),
     Code,
-    /// A tag's id, the size of its value, and its tag word, which is told the size.
+    /// A tag's id and the size of its value.
     Id,
     ValueSize,
-    TagWord(u32),
-    /// A word with this many bytes of a tag's value.
-    Value(usize),
+    /// A tag word, with the size of the tag's value, and whether the message is a reply.
+    TagWord(usize, bool),
+    /// The word of this index in the value of this tag, and how many of its bytes are the value's.
+    Value {
+        tag: u32,
+        index: usize,
+        count: usize,
+    },
     End,
     /// Behind the end word.
     Padding,
@@ -20,19 +31,19 @@ pub enum Role {
     Behind,
 }
 
-/// The words of a tag with a value of `size` bytes.
-fn tag(size: u32) -> Vec<Role> {
-    let mut roles = vec![Role::Id, Role::ValueSize, Role::TagWord(size)];
-    let mut left = size as usize;
-    while left > 0 {
-        roles.push(Role::Value(left.min(4)));
-        left -= left.min(4);
+/// The words of a tag of this id, with a value of `size` bytes.
+fn tag(id: u32, size: usize, reply: bool) -> Vec<Role> {
+    let mut roles = vec![Role::Id, Role::ValueSize, Role::TagWord(size, reply)];
+    for index in 0..size.div_ceil(4) {
+        let count = (size - index * 4).min(4);
+        roles.push(Role::Value { tag: id, index, count });
     }
     roles
 }
 
 /// The words of the tags, and the outcome of the lister behind the last of them.
 fn tags(bytes: &[u8]) -> (Vec<Role>, u32) {
+    let reply = is_reply(word(bytes, 4));
     let mut roles = Vec::new();
     let mut index = 0;
     loop {
@@ -40,19 +51,19 @@ fn tags(bytes: &[u8]) -> (Vec<Role>, u32) {
         if listed.outcome != 0 {
             return (roles, listed.outcome);
         }
-        roles.extend(tag(listed.size));
+        roles.extend(tag(listed.id, listed.size as usize, reply));
         index += 1;
     }
 }
 
-/// What each of the whole words of these bytes is.
-pub fn of(bytes: &[u8]) -> Vec<Role> {
+/// What each of the whole words is, by a size word that is good.
+fn by_size(bytes: &[u8]) -> Vec<Role> {
     let count = bytes.len() / 4;
+    let size = word(bytes, 0) as usize;
     let mut roles = vec![Role::Size, Role::Code];
     let (tags, outcome) = tags(bytes);
     roles.extend(tags);
     let rest = match outcome {
-        4 => Role::Behind,
         5 => {
             roles.extend([Role::Fault, Role::ValueSize]);
             Role::Unread
@@ -61,15 +72,26 @@ pub fn of(bytes: &[u8]) -> Vec<Role> {
             roles.push(Role::End);
             Role::Padding
         }
-        _ => Role::Unread,
+        _ => Role::Behind,
     };
-    if let 5 | 11 = outcome {
-        let size = u32::from_le_bytes([bytes[0], bytes[1], bytes[2], bytes[3]]) as usize;
-        roles.resize(size / 4, rest);
-        roles.resize(count, Role::Behind);
-    } else {
-        roles.resize(count.max(2), rest);
-    }
-    roles.truncate(count);
+    roles.resize(size / 4, rest);
+    roles.resize(count, Role::Behind);
     roles
+}
+
+/// What each of the whole words of these bytes is. Where the size word is wrong, they are named as if it
+/// were the size of all of them.
+pub fn of(bytes: &[u8]) -> Vec<Role> {
+    let count = bytes.len() / 4;
+    match vcmailbox::list(bytes, 0).outcome {
+        TOO_FEW => [Role::Size, Role::Code][..count].to_vec(),
+        BAD_SIZE => {
+            let mut mended = bytes.to_vec();
+            mended[..4].copy_from_slice(&(count as u32 * 4).to_le_bytes());
+            let mut roles = by_size(&mended);
+            roles[0] = Role::WrongSize(count * 4);
+            roles
+        }
+        _ => by_size(bytes),
+    }
 }
