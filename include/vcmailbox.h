@@ -4,7 +4,8 @@
  * outcome for any bytes, any numbers and any record, and reads and writes nothing but what it is lent.
  * A pointer must be valid for the length that follows it, and may be null where that is 0, or be valid for
  * the one number or record it points to; what is lent to be written must overlap nothing else that the same
- * call is lent. Numbers are given back through uint32_t pointers: no offset or size is above 65,536.
+ * call is lent, and a bool of a record must hold 0 or 1. Numbers are given back through uint32_t pointers:
+ * no offset or size is above 65,536.
  *
  * A message is a run of little-endian words: its size in bytes, a code, tags, an end word 0, padding.
  * A tag is its id, the size of its value in bytes, a tag word, and the value, padded to 4. */
@@ -30,7 +31,7 @@ enum {
     VC_SHORT_REQUEST = 6,    /* serving: a tag's value is shorter than its request */
     VC_NO_ROOM = 7,          /* building: the buffer has no room for it */
     VC_BAD_TAG = 8,          /* building: id 0, or a request longer than its value */
-    VC_BAD_CURSOR = 9,       /* building: no cursor that building gives */
+    VC_BAD_CURSOR = 9,       /* building: the cursor is below 8, no multiple of 4 or behind the buffer */
     VC_NOT_RESPONSE = 10,    /* reading: the code word is no response's */
     VC_NO_SUCH_TAG = 11,     /* the message ends before such a tag */
     VC_NOT_ANSWERED = 12,    /* reading: the tag was not answered */
@@ -130,17 +131,18 @@ typedef struct {
     uint32_t y;
 } vc_offset;
 
-/* `logical` is the virtual size. */
+/* `logical` is the virtual size. Sides are 1 to 4,096, offsets below the virtual size. */
 typedef struct {
     vc_size physical;
     vc_size logical;
     vc_offset offset;
-    uint32_t depth;
-    uint32_t order;
-    uint32_t alpha;
+    uint32_t depth; /* bits a pixel: 8, 16, 24 or 32 */
+    uint32_t order; /* 0 or 1 */
+    uint32_t alpha; /* 0 to 2 */
 } vc_settings;
 
-/* The region for the frame buffer, the settings, and the buffer that stands: none where its size is 0. */
+/* The region for the frame buffer, the settings, and the buffer that stands: where there is none, base and
+ * size are 0. */
 typedef struct {
     vc_span region;
     vc_settings settings;
@@ -162,7 +164,9 @@ typedef struct {
 void vc_bench(vc_board *board);
 
 /* Serves the message on the board: rewrites the message with the answers, and the record as its tags
- * change it. After VC_TOO_FEW_LENT, VC_BAD_SIZE, VC_NOT_REQUEST and VC_INVALID_BOARD both are as they were. */
+ * change it. After VC_TOO_FEW_LENT, VC_BAD_SIZE, VC_NOT_REQUEST and VC_INVALID_BOARD both are as they were.
+ * After VC_NO_END, VC_RUNS_OVER and VC_SHORT_REQUEST the tags before the fault are carried out, those of the
+ * frame buffer group excepted, and the code word is 0x80000001. */
 uint32_t vc_serve(vc_board *board, uint8_t *message, size_t length, uint32_t *place);
 
 #ifdef __cplusplus
