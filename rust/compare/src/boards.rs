@@ -135,7 +135,7 @@ fn display(random: &mut Random) -> Display {
     let highest = u32::MAX - size;
     let base = match random.below(6) {
         0 => 0,
-        1 => highest - random.below(3),
+        1 => highest - random.pick(&[0, 0, 1, 2]),
         2 => random.between(0, highest),
         _ => random.between(0, highest) >> random.pick(&[0, 8, 12, 20]) << random.pick(&[4, 8, 12]),
     };

@@ -31,7 +31,7 @@ pub fn generate(random: &mut Random, bench: &Board) -> Case {
 }
 
 fn message(random: &mut Random, board: &Board) -> Draft {
-    if random.one_in(2_000) {
+    if random.one_in(1_000) {
         messages::long_request(random, board)
     } else {
         messages::request(random, board)

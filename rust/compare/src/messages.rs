@@ -189,6 +189,9 @@ fn tag(random: &mut Random, board: &Board, group: Group) -> Known {
 /// At least the request's length: exact, short of the answer, or longer.
 fn value_size(random: &mut Random, tag: Known) -> u32 {
     let most = tag.request.max(tag.answer);
+    if random.one_in(400) {
+        return most + random.below(2_000);
+    }
     match random.below(8) {
         0 => tag.request,
         1 => random.between(tag.request, most),

@@ -38,7 +38,10 @@ pub fn caught<T>(call: impl FnOnce() -> T) -> Result<T, String> {
 fn words(panic: &PanicHookInfo) -> String {
     let message = panic.payload_as_str().unwrap_or("no message");
     match panic.location() {
-        Some(place) => format!("{message} ({}, line {})", place.file(), place.line()),
-        None => message.to_string(),
+        // A path of the standard library says little.
+        Some(place) if !place.file().starts_with('/') => {
+            format!("{message} ({}, line {})", place.file(), place.line())
+        }
+        _ => message.to_string(),
     }
 }

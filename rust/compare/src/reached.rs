@@ -67,6 +67,12 @@ impl Reached {
         *self.counts.entry(thing).or_insert(0) += 1;
     }
 
+    fn count_if(&mut self, is_kind: bool, kind: &'static str) {
+        if is_kind {
+            self.add(Thing::Kind(kind));
+        }
+    }
+
     /// Counts a call on which the sides agree; `before` is there for serving.
     pub fn count(&mut self, call: &Call, before: Option<&Side>, after: &Side) {
         if matches!(call, Call::Lend(_) | Call::Write { .. }) {
@@ -97,13 +103,23 @@ impl Reached {
         }
     }
 
-    /// A line for each thing reached, with its count.
+    /// A line for each thing reached, with its count; of alignments, command lines and addresses the
+    /// count of the rarest.
     pub fn print(&self) {
         for (thing, count) in &self.counts {
-            if !matches!(thing, Thing::Line(length) if !LINES.contains(length)) {
+            if !matches!(thing, Thing::Alignment(_) | Thing::Line(_) | Thing::Address(_)) {
                 println!("{count:>9}  {thing}");
             }
         }
+        let rarest = |things: &mut dyn Iterator<Item = Thing>| {
+            things.filter_map(|thing| self.counts.get(&thing)).min().map_or(0, |least| *least)
+        };
+        let alignment = rarest(&mut group::alignments());
+        println!("{alignment:>9}  or more for each alignment: powers of two, 0 and 24");
+        let line = rarest(&mut LINES.into_iter().map(Thing::Line));
+        println!("{line:>9}  or more for each command line of {LINES:?} characters");
+        let address = rarest(&mut (0..16).map(Thing::Address));
+        println!("{address:>9}  or more for each address modulo 16");
     }
 
     /// The things never reached.
@@ -115,7 +131,8 @@ impl Reached {
         let lines = LINES.into_iter().map(Thing::Line);
         let addresses = (0..16).map(Thing::Address);
         let all = outcomes.chain(tags).chain(lines).chain(addresses);
-        let all = all.chain(group::all()).chain(kinds::all()).chain(messages::all());
+        let all = all.chain(group::cases()).chain(group::alignments());
+        let all = all.chain(kinds::all()).chain(messages::all());
         all.filter(|thing| !self.counts.contains_key(thing)).collect()
     }
 }

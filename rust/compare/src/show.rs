@@ -18,6 +18,9 @@ pub fn print(case: &Case, disagreement: &Disagreement, bench: &Board) {
         println!("  bytes lent at an address of {} modulo 16", case.address);
     }
     let made = &case.calls[..=disagreement.call];
+    if !matches!(made[0], Call::Lend(_)) {
+        println!("  no bytes lent");
+    }
     for (index, call) in made.iter().enumerate() {
         if index < 2 || index + MOST > disagreement.call {
             println!("  {}. {}", index + 1, call_text(call));

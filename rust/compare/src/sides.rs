@@ -73,7 +73,6 @@ impl Side {
 
     fn make(&mut self, functions: &Functions, call: &Call) {
         let lent = self.bytes.lent_mut();
-        let pair = |(outcome, second): (u32, usize)| [outcome.into(), second as u64, 0, 0, 0, 0];
         self.numbers = match call {
             Call::Lend(bytes) => {
                 self.bytes = Guarded::new(bytes, self.address);
@@ -111,6 +110,10 @@ impl Side {
     }
 }
 
+fn pair((outcome, second): (u32, usize)) -> Numbers {
+    [outcome.into(), second as u64, 0, 0, 0, 0]
+}
+
 fn listed(given: Listed) -> Numbers {
     let Listed { outcome, place, id, size, word, value } = given;
     [outcome.into(), place as u64, id.into(), size.into(), word.into(), value as u64]
@@ -121,7 +124,7 @@ fn shown(given: Reading) -> Numbers {
     [outcome.into(), place as u64, answer.into(), value as u64, count as u64, 0]
 }
 
-/// Where the sides part: the call, what each holds after it, and what both held before it.
+/// Where the sides part: the call, and what each holds after it.
 pub struct Disagreement {
     pub call: usize,
     pub library: Side,

@@ -15,7 +15,7 @@ const GROUP: [&str; 23] = [
     "accepted within the buffer that stands",
     "accepted, allocate",
     "accepted, allocate above the region's base",
-    "accepted, allocate up to the end of 32 bits",
+    "accepted, allocate in a region up to the last address",
     "accepted, release",
     "accepted, release and allocate",
     "refused for the physical size",
@@ -33,10 +33,13 @@ const GROUP: [&str; 23] = [
     "refused with release",
 ];
 
-/// What a run has to reach of the group: its cases, each power of two as alignment, and 0 and 24.
-pub fn all() -> impl Iterator<Item = Thing> {
-    let alignments = (0..32).map(|bit| 1 << bit).chain([0, 24]).map(Thing::Alignment);
-    GROUP.into_iter().map(Thing::Group).chain(alignments)
+pub fn cases() -> impl Iterator<Item = Thing> {
+    GROUP.into_iter().map(Thing::Group)
+}
+
+/// Each power of two, and 0 and 24.
+pub fn alignments() -> impl Iterator<Item = Thing> {
+    (0..32).map(|bit| 1 << bit).chain([0, 24]).map(Thing::Alignment)
 }
 
 impl Reached {
@@ -57,21 +60,20 @@ impl Reached {
     fn count_operation(&mut self, operation: &Operation, display: &Display) {
         let verdict = operation.verdict(display);
         self.add(Thing::Group(name(operation, &verdict, display)));
+        let refused = matches!(verdict, Verdict::Refused(_));
+        if refused && operation.release {
+            self.add(Thing::Group("refused with release"));
+        }
         let Some(alignment) = operation.alignment.filter(|_| verdict != Verdict::Mixed) else {
             return;
         };
         if alignment.is_power_of_two() || [0, 24].contains(&alignment) {
             self.add(Thing::Alignment(alignment));
         }
-        match verdict {
-            Verdict::Refused(_) => self.add(Thing::Group("refused with allocate")),
-            Verdict::Accepted(buffer) if buffer.end() == u64::from(u32::MAX) => {
-                self.add(Thing::Group("accepted, allocate up to the end of 32 bits"));
-            }
-            _ => {}
-        }
-        if operation.release && matches!(verdict, Verdict::Refused(_)) {
-            self.add(Thing::Group("refused with release"));
+        if refused {
+            self.add(Thing::Group("refused with allocate"));
+        } else if display.region.end() == u64::from(u32::MAX) {
+            self.add(Thing::Group("accepted, allocate in a region up to the last address"));
         }
     }
 }

@@ -28,12 +28,6 @@ pub fn all() -> impl Iterator<Item = Thing> {
 }
 
 impl Reached {
-    pub fn count_if(&mut self, is_kind: bool, kind: &'static str) {
-        if is_kind {
-            self.add(Thing::Kind(kind));
-        }
-    }
-
     /// Counts the kinds of a message whose walk meets these tags.
     pub fn count_message(&mut self, before: &Side, after: &Side, tags: &[Tag]) {
         let lent = before.bytes.lent();
