@@ -155,11 +155,21 @@ fn push_run(random: &mut Random, board: &Board, draft: &mut Draft, group: Group,
     }
 }
 
-/// Lends about as many bytes as the longest message has, with a size about there.
+/// Lends about as many bytes as the longest message has, with a size about there, and often a last
+/// tag that reaches as far.
 fn stretch(random: &mut Random, draft: &mut Draft) {
     draft.bytes.resize(random.between(65_536, 65_560) as usize, 0);
     let size = if random.one_in(4) { random.below(17) } else { 4 * random.below(5) };
     put_word(&mut draft.bytes, 0, 65_528 + size);
+    let value = draft.end + TAG_HEADER;
+    let last = LONGEST - random.below(20) as usize;
+    if value <= last && random.one_in(2) {
+        draft.bytes[draft.end..].fill(0);
+        draft.tags.push(draft.end);
+        put_word(&mut draft.bytes, draft.end, known::stranger(random));
+        put_word(&mut draft.bytes, draft.end + 4, (last - value) as u32);
+        draft.end = last.next_multiple_of(4);
+    }
 }
 
 fn tag(random: &mut Random, board: &Board, group: Group) -> Known {

@@ -35,7 +35,7 @@ pub fn options(mut arguments: impl Iterator<Item = String>) -> Result<Options, S
         }
     }
     if options.cases.is_empty() {
-        return Err("no case to compare".to_string());
+        return Err("no case to compare: --cases takes 1 or more".to_string());
     }
     Ok(options)
 }

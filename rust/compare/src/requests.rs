@@ -32,10 +32,11 @@ pub fn fill(random: &mut Random, board: &Board, id: u32, value: &mut [u8]) {
 }
 
 fn item(random: &mut Random, most: u32) -> u32 {
-    if random.one_in(20) {
-        random.number()
-    } else {
-        random.below(most + 1)
+    let item = random.below(most + 1);
+    match random.below(40) {
+        0 => random.number(),
+        1 => random.with_high_bit(item, 4),
+        _ => item,
     }
 }
 
@@ -84,42 +85,56 @@ fn group_request(random: &mut Random, settings: &Settings, property: u32) -> (u3
             let most = settings.logical;
             (place_near(random, most.width), place_near(random, most.height))
         }
-        5 if rare => (random.pick(&[0, 1, 7, 9, 12, 15, 40, 64, 0x108, 0x8000_0008]), 0),
-        5 => (random.pick(&[8, 16, 24, 32, settings.depth]), 0),
-        6 if rare => (random.pick(&[2, 3, 0x100, 0x8000_0001, u32::MAX]), 0),
-        6 => (random.below(2), 0),
-        7 if rare => (random.pick(&[3, 4, 0x100, 0x8000_0002, u32::MAX]), 0),
-        7 => (random.below(3), 0),
+        5 if rare => (random.pick(&[0, 1, 7, 9, 12, 15, 25, 33, 40, 64]), 0),
+        5 => (perhaps_high(random, settings.depth, &[8, 16, 24, 32]), 0),
+        6 if rare => (random.pick(&[2, 3, u32::MAX]), 0),
+        6 => (perhaps_high(random, settings.order, &[0, 1]), 0),
+        7 if rare => (random.pick(&[3, 4, u32::MAX]), 0),
+        7 => (perhaps_high(random, settings.alpha, &[0, 1, 2]), 0),
         1 => (alignment(random), random.word()),
         _ => (random.number(), random.number()),
     }
 }
 
+/// The setting as it is or another supported one, now and then with a high bit.
+fn perhaps_high(random: &mut Random, now: u32, supported: &[u32]) -> u32 {
+    let setting = if random.one_in(4) { now } else { random.pick(supported) };
+    if random.one_in(40) {
+        random.with_high_bit(setting, 6)
+    } else {
+        setting
+    }
+}
+
 fn side_near(random: &mut Random, now: u32) -> u32 {
-    match random.below(24) {
-        0 => random.pick(&[0, 4_097, 4_098, 0x1_0001, u32::MAX]),
-        1..=4 => side(random),
-        5..=8 => now.wrapping_add(random.below(3)).wrapping_sub(1),
-        9..=16 => random.between(1, 40),
+    match random.below(48) {
+        0 => random.pick(&[0, 4_097, 4_098, u32::MAX]),
+        1 => random.with_high_bit(now, 13),
+        2..=8 => side(random),
+        9..=16 => now.wrapping_add(random.below(3)).wrapping_sub(1),
+        17..=32 => random.between(1, 40),
         _ => now,
     }
 }
 
 fn place_near(random: &mut Random, limit: u32) -> u32 {
-    match random.below(12) {
-        0 => limit,
-        1 => limit.wrapping_sub(1),
-        2 => random.number(),
-        3..=6 => random.below(8),
+    match random.below(24) {
+        0..=1 => limit,
+        2..=3 => limit.wrapping_sub(1),
+        4 => random.number(),
+        5 => random.with_high_bit(0, 12),
+        6..=13 => random.below(8),
         _ => 0,
     }
 }
 
 fn alignment(random: &mut Random) -> u32 {
+    let power = 1 << random.below(18);
     match random.below(8) {
         0 => random.pick(&[0, 24, 3, 5, 0x8000_0001, u32::MAX]),
         1..=2 => 1 << random.below(32),
         3 => random.number(),
-        _ => 1 << random.below(18),
+        4 => random.with_high_bit(power, 0),
+        _ => power,
     }
 }

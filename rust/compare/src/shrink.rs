@@ -25,6 +25,7 @@ pub fn shrink(case: Case, bench: &Board) -> Case {
     loop {
         let before = shrinker.cost;
         shrinker.plainer_board();
+        shrinker.each_lent(Shrinker::join_tags);
         shrinker.each_lent(Shrinker::clear_words);
         shrinker.drop_calls();
         shrinker.each_lent(Shrinker::cut_words);

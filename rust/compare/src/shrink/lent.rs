@@ -3,12 +3,14 @@
 use super::cost::digits;
 use super::Shrinker;
 use crate::case::Call;
-use crate::walk::{put_word, size_of, tags, word, Tag};
+use crate::walk::{put_word, size_of, tags, word, Tag, TAG_HEADER};
 
 /// How many words are cut out at any place; more go by halves only.
 const FEW: usize = 24;
 /// Up to how many words a few are cut out at any place.
 const SHORT: usize = 256;
+/// The id of a tag that is passed over.
+const UNKNOWN: u32 = 2;
 
 impl Shrinker<'_> {
     pub fn each_lent(&mut self, pass: fn(&mut Self, usize)) {
@@ -32,6 +34,21 @@ impl Shrinker<'_> {
                 change(bytes);
             }
         })
+    }
+
+    /// Makes one unknown tag of many, which leaves those behind where they are.
+    pub fn join_tags(&mut self, call: usize) {
+        let tags = tags(self.lent(call));
+        for many in halves(tags.len()) {
+            for joined in tags.chunks(many) {
+                let (start, end) = (joined[0].at, joined[joined.len() - 1].next());
+                self.change_lent(call, |bytes| {
+                    bytes[start..end].fill(0);
+                    put_word(bytes, start, UNKNOWN);
+                    put_word(bytes, start + 4, (end - start - TAG_HEADER) as u32);
+                });
+            }
+        }
     }
 
     /// Sets words to 0, all first, then many at a time.
