@@ -65,10 +65,11 @@ fn compare(options: &Options, bench: &Board, reached: &mut Reached) -> bool {
         if sides::run(&case, Some(reached)).is_none() {
             continue;
         }
+        println!("disagreement, repeated by --seed {} --case {number}", options.seed);
         let small = shrink::shrink(case, bench);
-        if let Some(disagreement) = sides::run(&small, None) {
-            println!("disagreement, repeated by --seed {} --case {number}", options.seed);
-            show::print(&small, &disagreement, bench);
+        match sides::run(&small, None) {
+            Some(disagreement) => show::print(&small, &disagreement, bench),
+            None => println!("  the same calls a second time agree"),
         }
         disagreements += 1;
         if disagreements == MOST_DISAGREEMENTS {

@@ -51,7 +51,7 @@ pub fn request(random: &mut Random, board: &Board) -> Draft {
         }
     }
     draft.close(random);
-    if random.one_in(1_000) {
+    if random.one_in(500) {
         stretch(random, &mut draft);
     }
     draft
@@ -65,7 +65,7 @@ pub fn long_request(random: &mut Random, board: &Board) -> Draft {
     if random.one_in(3) {
         push_run(random, board, &mut draft, group, count);
     } else {
-        let empty = random.one_in(2);
+        let empty = random.below(3) > 0;
         for _ in 0..count {
             let tag = tag(random, board, group);
             let size = if empty { 0 } else { tag.request };
@@ -159,10 +159,15 @@ fn push_run(random: &mut Random, board: &Board, draft: &mut Draft, group: Group,
 /// tag that reaches as far.
 fn stretch(random: &mut Random, draft: &mut Draft) {
     draft.bytes.resize(random.between(65_536, 65_560) as usize, 0);
-    let size = if random.one_in(4) { random.below(17) } else { 4 * random.below(5) };
-    put_word(&mut draft.bytes, 0, 65_528 + size);
+    let size = match random.below(4) {
+        0 => random.between(65_528, 65_544),
+        1 => LONGEST as u32,
+        _ => 65_528 + 4 * random.below(5),
+    };
+    put_word(&mut draft.bytes, 0, size);
     let value = draft.end + TAG_HEADER;
-    let last = LONGEST - random.below(20) as usize;
+    let short = if random.one_in(2) { 0 } else { random.below(20) };
+    let last = LONGEST - short as usize;
     if value <= last && random.one_in(2) {
         draft.bytes[draft.end..].fill(0);
         draft.tags.push(draft.end);

@@ -7,6 +7,7 @@ use crate::walk::{size_of, word, Tag};
 use interface::Board;
 
 const LONGEST: &str = "message of 65,536 bytes done";
+const LONGEST_NO_END: &str = "message of 65,536 bytes without an end";
 const TOO_LONG: &str = "size of 65,540 with as many bytes lent";
 const HUGE_VALUE: &str = "value size from 0xFFFFFFFD on runs over";
 const HALF_VALUE: &str = "value size of 0x80000000 runs over";
@@ -21,7 +22,7 @@ const RUN_FAULT: &str = "five unknown tags of one value size before a fault";
 const RUN_KNOWN: &str = "five unknown tags of one value size before a known one";
 
 pub fn all() -> impl Iterator<Item = Thing> {
-    let sizes = [LONGEST, TOO_LONG, HUGE_VALUE, HALF_VALUE, SHORT_BY_ONE];
+    let sizes = [LONGEST, LONGEST_NO_END, TOO_LONG, HUGE_VALUE, HALF_VALUE, SHORT_BY_ONE];
     let tags = [BESIDE, RESPONSE, THIRD_0, THIRD_1, FAST];
     let runs = [RUN_END, RUN_FAULT, RUN_KNOWN];
     sizes.into_iter().chain(tags).chain(runs).map(Thing::Kind)
@@ -34,6 +35,7 @@ impl Reached {
         let [outcome, place, ..] = after.numbers;
         let size = if lent.len() < 4 { 0 } else { word(lent, 0) as usize };
         self.count_if(outcome == 0 && size == 65_536, LONGEST);
+        self.count_if(outcome == 4 && size == 65_536, LONGEST_NO_END);
         self.count_if(outcome == 2 && size == 65_540 && lent.len() >= size, TOO_LONG);
         if outcome == 5 && size_of(lent).is_some_and(|size| place as usize + 12 <= size) {
             let value = word(lent, place as usize + 4);
