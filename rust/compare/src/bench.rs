@@ -1,5 +1,6 @@
 //! The bench record, as far as the rules name it.
 
+use crate::panics;
 use interface::{Board, Offset, Settings, Size, Span, State};
 
 /// Whether the record is valid, has what the rules name, and shows each rule.
@@ -9,7 +10,8 @@ pub fn is_bench(board: &Board) -> bool {
     let settings =
         Settings { physical: size, logical: size, offset, depth: 32, order: 1, alpha: 2 };
     let clock = board.clocks[2];
-    interface::is_valid(board)
+    // A panic here comes again in a case, and is shown there.
+    panics::caught(|| interface::is_valid(board)).unwrap_or(true)
         && board.display.region == Span { base: 0x3C00_0000, size: 8_388_608 }
         && board.display.settings == settings
         && board.display.buffer == Span::NONE

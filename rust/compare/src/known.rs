@@ -123,13 +123,8 @@ pub fn of(id: u32) -> Option<&'static Known> {
 
 /// Any known tag, each as often as another.
 pub fn any(random: &mut Random) -> Known {
-    match random.below(45) {
-        at @ 0..=23 => OUTSIDE_GROUP[at as usize],
-        at @ 24..=30 => GETS[at as usize - 24],
-        at @ 31..=36 => TESTS[at as usize - 31],
-        at @ 37..=42 => SETS[at as usize - 37],
-        at => BUFFER_TAGS[at as usize - 43],
-    }
+    let at = random.below(all().count() as u32) as usize;
+    all().nth(at).copied().unwrap_or(OUTSIDE_GROUP[0])
 }
 
 /// An id that is no end word and mostly unknown: beside a known one, left out, at the edge of a
