@@ -1,8 +1,6 @@
-//! Random board records, valid ones and ones with a rule broken.
+//! Random board records that are valid.
 
-use crate::fields;
 use crate::random::Random;
-use interface::frame_buffer::need;
 use interface::*;
 
 pub fn valid(random: &mut Random) -> Board {
@@ -22,7 +20,7 @@ pub fn valid(random: &mut Random) -> Board {
 fn facts(random: &mut Random) -> Facts {
     let mut mac = [0; 6];
     mac.copy_from_slice(&random.bytes(6));
-    let longest = random.pick(&[0, 3, 20, 256]);
+    let longest = random.pick(&[0, 1, 3, 20, 255, 256]);
     Facts {
         firmware: random.word(),
         model: random.word(),
@@ -41,9 +39,15 @@ fn state(random: &mut Random) -> State {
     State { exists, on: exists && random.one_in(2) }
 }
 
-/// Three numbers below the limit in rising order, now and then equal.
-fn rising(random: &mut Random, limit: u32) -> [u32; 3] {
-    let mut three = [0; 3].map(|_| random.number() % limit);
+/// Three numbers up to the most in rising order, now and then equal.
+fn rising(random: &mut Random, most: u32) -> [u32; 3] {
+    let mut three = [0; 3].map(|_| match random.number() {
+        number if number <= most => number,
+        number => number % most,
+    });
+    if random.one_in(8) {
+        three[0] = most;
+    }
     if random.one_in(6) {
         three[1] = three[0];
     }
@@ -66,8 +70,8 @@ fn clock(random: &mut Random) -> Clock {
 
 fn voltage(random: &mut Random) -> Voltage {
     let valid = !random.one_in(3);
-    let limit = random.pick(&[10_001, 2_000, 1_300]);
-    let [min, value, max] = rising(random, limit);
+    let most = random.pick(&[10_000, 2_000, 1_300]);
+    let [min, value, max] = rising(random, most);
     if valid {
         Voltage { valid, value, min, max }
     } else {
@@ -104,124 +108,52 @@ fn settings(random: &mut Random) -> Settings {
     }
 }
 
+/// Bytes from one row to the next, of settings that are supported.
+fn pitch(settings: &Settings) -> u32 {
+    (settings.logical.width * settings.depth / 8).next_multiple_of(32)
+}
+
+/// Bytes that a buffer of these settings takes.
+pub fn need(settings: &Settings) -> u32 {
+    pitch(settings) * settings.logical.height
+}
+
 fn display(random: &mut Random) -> Display {
     let settings = settings(random);
     let need = need(&settings);
     let power = 1 << random.between(4, 16);
-    let spare = match random.below(6) {
+    let spare = match random.below(7) {
         0 => 0,
         1 => random.below(64),
         2 => random.below(power),
         3 | 4 => need * random.below(4),
+        // One row more just fits, or just does not.
+        5 => pitch(&settings) + random.below(3) - 1,
         _ => 8_388_608,
     };
     let size = need + spare;
     let highest = u32::MAX - size;
     let base = match random.below(6) {
         0 => 0,
-        1 => highest - random.below(3),
+        1 => highest - random.pick(&[0, 0, 1, 2]),
         2 => random.between(0, highest),
         _ => random.between(0, highest) >> random.pick(&[0, 8, 12, 20]) << random.pick(&[4, 8, 12]),
     };
     let region = Span { base: base.min(highest), size };
-    let buffer = if random.one_in(2) { Span::NONE } else { standing(random, region, need) };
+    let standing = !random.one_in(2);
+    let buffer = if standing { buffer(random, region, &settings) } else { Span::NONE };
     Display { region, settings, buffer }
 }
 
 /// A buffer inside the region.
-fn standing(random: &mut Random, region: Span, need: u32) -> Span {
+fn buffer(random: &mut Random, region: Span, settings: &Settings) -> Span {
+    let need = need(settings);
     let spare = region.size - need;
-    let extra = if random.one_in(2) { 0 } else { random.between(0, spare) };
+    let extra = match random.below(6) {
+        0..=2 => 0,
+        3 => (pitch(settings) + random.below(3) - 1).min(spare),
+        _ => random.between(0, spare),
+    };
     let shift = if random.one_in(2) { 0 } else { random.between(0, spare - extra) };
     Span { base: region.base + shift, size: need + extra }
-}
-
-/// Breaks a rule of a valid record, or changes fields at random.
-pub fn spoil(random: &mut Random, board: &mut Board) {
-    match random.below(8) {
-        0 => spoil_facts(random, &mut board.facts),
-        1 | 2 => spoil_items(random, board),
-        3 | 4 => spoil_settings(random, &mut board.display),
-        5 | 6 => spoil_buffer(random, &mut board.display),
-        _ => {
-            let count = fields::values(board).len() as u32;
-            for _ in 0..=random.below(3) {
-                let value = random.number().into();
-                fields::set(board, random.below(count) as usize, value);
-            }
-        }
-    }
-}
-
-fn spoil_facts(random: &mut Random, facts: &mut Facts) {
-    if random.one_in(2) {
-        facts.characters = random.pick(&[257, 258, 512, 0x1_0000, 0x8000_0000, u32::MAX]);
-    } else {
-        facts.dma |= 1 << random.between(16, 31);
-    }
-}
-
-fn spoil_items(random: &mut Random, board: &mut Board) {
-    let alone = State { exists: false, on: true };
-    let clock = &mut board.clocks[random.below(14) as usize];
-    let voltage = &mut board.voltages[random.below(4) as usize];
-    let middle = random.between(1, 9_999);
-    let (below, above) = match random.below(4) {
-        0 => (middle - 1, middle),
-        1 => (0, middle),
-        2 => (middle, middle + 1),
-        _ => (middle, 10_000),
-    };
-    match random.below(7) {
-        0 => board.devices[random.below(11) as usize].state = alone,
-        1 => clock.state = alone,
-        2 => {
-            let state = State { exists: true, on: true };
-            *clock = Clock { state, rate: below, min: above, max: above };
-        }
-        3 => {
-            let state = State { exists: true, on: false };
-            *clock = Clock { state, rate: above, min: below, max: below };
-        }
-        4 => *voltage = Voltage { valid: true, value: below, min: above, max: above },
-        5 => *voltage = Voltage { valid: true, value: above, min: below, max: below },
-        _ => {
-            let max = random.pick(&[10_000, 10_001, 10_002, 0x8000_0000, u32::MAX]);
-            *voltage = Voltage { valid: true, value: below, min: below, max };
-        }
-    }
-}
-
-fn spoil_settings(random: &mut Random, display: &mut Display) {
-    let settings = &mut display.settings;
-    let out = random.pick(&[0, 4_097, 4_098, 0x8000_0000, u32::MAX]);
-    match random.below(10) {
-        0 => settings.physical.width = out,
-        1 => settings.physical.height = out,
-        2 => settings.logical.width = out,
-        3 => settings.logical.height = out,
-        4 => settings.depth = random.pick(&[0, 1, 4, 7, 9, 15, 25, 40, 64, 0x108, 0x8000_0020]),
-        5 => settings.order = random.pick(&[2, 3, 0x100, u32::MAX]),
-        6 => settings.alpha = random.pick(&[3, 4, 0x102, u32::MAX]),
-        7 => settings.offset.x = settings.logical.width + random.below(2),
-        8 => settings.offset.y = settings.logical.height + random.below(2),
-        _ => display.region.size = need(settings) - random.between(1, 3),
-    }
-}
-
-fn spoil_buffer(random: &mut Random, display: &mut Display) {
-    let Display { region, settings, buffer } = display;
-    let need = need(settings);
-    match random.below(7) {
-        0 => *buffer = Span { base: region.base.wrapping_sub(random.between(1, 40)), size: need },
-        1 => {
-            let shift = region.size - need + random.below(3);
-            *buffer = Span { base: region.base.wrapping_add(shift), size: need };
-        }
-        2 => *buffer = Span { base: region.base, size: need - random.between(1, 4) },
-        3 => *buffer = Span { base: random.number(), size: 0 },
-        4 => *buffer = Span { base: region.base, size: region.size.wrapping_add(random.below(4)) },
-        5 => *buffer = Span { base: random.number(), size: random.number() },
-        _ => region.base = (u32::MAX - region.size).wrapping_add(random.between(1, 3)),
-    }
 }

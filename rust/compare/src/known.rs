@@ -1,5 +1,8 @@
-//! The known tags: id, request length, answer length.
+//! The known tags: id, request length, answer length; and ids that are unknown, but only just.
 
+use crate::random::Random;
+
+#[derive(Clone, Copy)]
 pub struct Known {
     pub id: u32,
     pub request: u32,
@@ -8,6 +11,7 @@ pub struct Known {
 
 /// Its answer's length is that of the board's command line.
 pub const COMMAND_LINE: u32 = 0x0005_0001;
+pub const SET_CLOCK_RATE: u32 = 0x0003_8002;
 pub const ALLOCATE: u32 = 0x0004_0001;
 pub const RELEASE: u32 = 0x0004_8001;
 
@@ -33,7 +37,7 @@ pub const OUTSIDE_GROUP: [Known; 24] = [
     tag(0x0003_0002, 4, 8),
     tag(0x0003_0004, 4, 8),
     tag(0x0003_0007, 4, 8),
-    tag(0x0003_8002, 8, 8),
+    tag(SET_CLOCK_RATE, 8, 8),
     tag(0x0003_0003, 4, 8),
     tag(0x0003_8003, 8, 8),
     tag(0x0003_0005, 4, 8),
@@ -72,10 +76,66 @@ pub const SETS: [Known; 6] = [
 
 pub const BUFFER_TAGS: [Known; 2] = [tag(ALLOCATE, 4, 8), tag(RELEASE, 0, 0)];
 
+/// Ids that the real interface or a regular reading of it has, and this one leaves unknown.
+const LEFT_OUT: [u32; 30] = [
+    0x0000_8010,
+    0x0000_8011,
+    0x0001_0007,
+    0x0002_8002,
+    0x0003_0009,
+    0x0003_000C,
+    0x0003_000D,
+    0x0003_000E,
+    0x0003_000F,
+    0x0003_0010,
+    0x0003_0014,
+    0x0003_0020,
+    0x0003_8009,
+    0x0004_0002,
+    0x0004_000A,
+    0x0004_000B,
+    0x0004_4001,
+    0x0004_4002,
+    0x0004_4008,
+    0x0004_400A,
+    0x0004_400B,
+    0x0004_8002,
+    0x0004_8008,
+    0x0004_800A,
+    0x0004_800B,
+    0x0004_C001,
+    0x0004_C003,
+    0x0005_8001,
+    0x0006_8001,
+    0x0007_0001,
+];
+
+/// From here on no id is known.
+pub const BEYOND: u32 = 0x0007_0000;
+
 pub fn all() -> impl Iterator<Item = &'static Known> {
     OUTSIDE_GROUP.iter().chain(&GETS).chain(&TESTS).chain(&SETS).chain(&BUFFER_TAGS)
 }
 
 pub fn of(id: u32) -> Option<&'static Known> {
     all().find(|known| known.id == id)
+}
+
+/// Any known tag, each as often as another.
+pub fn any(random: &mut Random) -> Known {
+    let at = random.below(all().count() as u32) as usize;
+    all().nth(at).copied().unwrap_or(OUTSIDE_GROUP[0])
+}
+
+/// An id that is no end word and mostly unknown: beside a known one, left out, at the edge of a
+/// range, behind all, or any.
+pub fn stranger(random: &mut Random) -> u32 {
+    let id = match random.below(8) {
+        0..=2 => any(random).id ^ 1 << random.below(32),
+        3..=4 => random.pick(&LEFT_OUT),
+        5 => (random.between(1, 8) << 16) - random.below(2),
+        6 => random.between(BEYOND, u32::MAX),
+        _ => random.number(),
+    };
+    id.max(1)
 }

@@ -48,6 +48,11 @@ impl Random {
         bytes
     }
 
+    /// The number with one bit more, from this bit on: itself again once high bits are lost.
+    pub fn with_high_bit(&mut self, number: u32, from: u32) -> u32 {
+        number | 1 << self.between(from, 31)
+    }
+
     /// A word that is often small or next to a power of two.
     pub fn number(&mut self) -> u32 {
         match self.below(5) {

@@ -1,10 +1,13 @@
-//! What a run has reached: outcomes, tags answered, cases of the frame buffer group.
+//! What a run has reached: outcomes, tags answered, cases of the frame buffer group, kinds of calls.
 
-use crate::case::{Call, Side};
+mod group;
+mod kinds;
+mod messages;
+
+use crate::case::Call;
 use crate::known;
-use interface::frame_buffer::{need, GroupTag, Operation, Refusal, Verdict};
-use interface::walk::{size_of, step, word, Step, ANSWERED, HEADER};
-use interface::{Display, Settings, Span};
+use crate::sides::Side;
+use crate::walk::{self, word, ANSWERED};
 use std::collections::BTreeMap;
 use std::fmt;
 
@@ -17,6 +20,14 @@ pub enum Thing {
     Tag(u32),
     /// A case of the frame buffer group.
     Group(&'static str),
+    /// An alignment that was decided on.
+    Alignment(u32),
+    /// A command line of this length answered.
+    Line(u32),
+    /// An address, modulo 16, at which a message was served.
+    Address(usize),
+    /// A kind of call or message.
+    Kind(&'static str),
 }
 
 impl fmt::Display for Thing {
@@ -25,6 +36,10 @@ impl fmt::Display for Thing {
             Thing::Outcome(function, outcome) => write!(to, "{function} gives {outcome}"),
             Thing::Tag(id) => write!(to, "tag {id:08x} answered"),
             Thing::Group(case) => write!(to, "group {case}"),
+            Thing::Alignment(alignment) => write!(to, "group with alignment {alignment}"),
+            Thing::Line(length) => write!(to, "command line of {length} answered"),
+            Thing::Address(rest) => write!(to, "message at an address of {rest} modulo 16"),
+            Thing::Kind(kind) => write!(to, "{kind}"),
         }
     }
 }
@@ -39,30 +54,8 @@ const OUTCOMES: [(&str, &[u64]); 6] = [
     ("read", &[0, 1, 2, 4, 5, 10, 11, 12, 13]),
 ];
 
-const GROUP: [&str; 22] = [
-    "mixed",
-    "tests, supported",
-    "tests, not supported",
-    "accepted, no buffer and no allocate",
-    "accepted within the buffer that stands",
-    "accepted, allocate",
-    "accepted, allocate above the region's base",
-    "accepted, release",
-    "accepted, release and allocate",
-    "refused for the physical size",
-    "refused for the virtual size",
-    "refused for the depth",
-    "refused for the pixel order",
-    "refused for the alpha mode",
-    "refused for the x offset",
-    "refused for the y offset",
-    "refused for a need above the region",
-    "refused for the alignment",
-    "refused for no room at the alignment",
-    "refused for the buffer that stands",
-    "refused with allocate",
-    "refused with release",
-];
+/// The lengths of a command line that must be answered.
+const LINES: [u32; 4] = [0, 1, 255, 256];
 
 #[derive(Default)]
 pub struct Reached {
@@ -74,74 +67,59 @@ impl Reached {
         *self.counts.entry(thing).or_insert(0) += 1;
     }
 
+    fn count_if(&mut self, is_kind: bool, kind: &'static str) {
+        if is_kind {
+            self.add(Thing::Kind(kind));
+        }
+    }
+
     /// Counts a call on which the sides agree; `before` is there for serving.
     pub fn count(&mut self, call: &Call, before: Option<&Side>, after: &Side) {
-        if matches!(call, Call::Lend(_)) {
+        if matches!(call, Call::Lend(_) | Call::Write { .. }) {
             return;
         }
         self.add(Thing::Outcome(call.names()[0], after.numbers[0]));
-        let Some(before) = before else { return };
-        if let Ok(size) = size_of(before.lent()) {
-            let (old, new) = (&before.lent()[..size], &after.lent()[..size]);
-            let operation = self.count_tags(old, new, &before.board.display);
-            if after.numbers[0] == 0 && (operation.tests || operation.others) {
-                self.count_operation(&operation, &before.board.display);
-            }
+        self.count_kinds(call, after);
+        if let Some(before) = before {
+            self.count_served(before, after);
         }
     }
 
-    fn count_tags(&mut self, old: &[u8], new: &[u8], display: &Display) -> Operation {
-        let mut operation = Operation::on(display);
-        let mut at = HEADER;
-        while let Step::Tag(tag) = step(old, at) {
-            at = tag.next();
-            if !tag.is_request() {
-                continue;
-            }
-            if word(new, tag.at + 8) & ANSWERED != 0 {
+    fn count_served(&mut self, before: &Side, after: &Side) {
+        let tags = walk::tags(before.bytes.lent());
+        self.add(Thing::Address(after.address));
+        self.count_message(before, after, &tags);
+        for tag in &tags {
+            let answered = word(after.bytes.lent(), tag.at + 8) & ANSWERED != 0;
+            if tag.is_request() && answered {
                 self.add(Thing::Tag(tag.id));
-            }
-            match GroupTag::of(tag.id) {
-                Some(group) if group.request_length() <= tag.size => {
-                    operation.take(group, &old[tag.value()]);
+                if tag.id == known::COMMAND_LINE {
+                    self.add(Thing::Line(after.board.facts.characters));
                 }
-                _ => {}
             }
         }
-        operation
-    }
-
-    fn count_operation(&mut self, operation: &Operation, display: &Display) {
-        let verdict = operation.verdict(display);
-        let name = match verdict {
-            Verdict::Mixed => "mixed",
-            Verdict::Tests { supported: true } => "tests, supported",
-            Verdict::Tests { supported: false } => "tests, not supported",
-            Verdict::Accepted(buffer) => accepted_name(operation, buffer, display),
-            Verdict::Refused(Refusal::Unsupported) => {
-                unsupported_name(&operation.proposal, display)
-                    .unwrap_or("refused for more than one")
-            }
-            Verdict::Refused(Refusal::Alignment) => "refused for the alignment",
-            Verdict::Refused(Refusal::NoRoom) => "refused for no room at the alignment",
-            Verdict::Refused(Refusal::BufferTooSmall) => "refused for the buffer that stands",
-        };
-        self.add(Thing::Group(name));
-        if matches!(verdict, Verdict::Refused(_)) {
-            if operation.alignment.is_some() {
-                self.add(Thing::Group("refused with allocate"));
-            }
-            if operation.release {
-                self.add(Thing::Group("refused with release"));
-            }
+        if after.numbers[0] == 0 {
+            self.count_group(before, &tags);
         }
     }
 
-    /// A line for each thing reached, with its count.
+    /// A line for each thing reached, with its count; of alignments, command lines and addresses the
+    /// count of the rarest.
     pub fn print(&self) {
         for (thing, count) in &self.counts {
-            println!("{count:>9}  {thing}");
+            if !matches!(thing, Thing::Alignment(_) | Thing::Line(_) | Thing::Address(_)) {
+                println!("{count:>9}  {thing}");
+            }
         }
+        let rarest = |things: &mut dyn Iterator<Item = Thing>| {
+            things.filter_map(|thing| self.counts.get(&thing)).min().map_or(0, |least| *least)
+        };
+        let alignment = rarest(&mut group::alignments());
+        println!("{alignment:>9}  or more for each alignment: powers of two, 0 and 24");
+        let line = rarest(&mut LINES.into_iter().map(Thing::Line));
+        println!("{line:>9}  or more for each command line of {LINES:?} characters");
+        let address = rarest(&mut (0..16).map(Thing::Address));
+        println!("{address:>9}  or more for each address modulo 16");
     }
 
     /// The things never reached.
@@ -150,45 +128,11 @@ impl Reached {
             outcomes.iter().map(|outcome| Thing::Outcome(function, *outcome))
         });
         let tags = known::all().map(|known| Thing::Tag(known.id));
-        let group = GROUP.iter().map(|case| Thing::Group(case));
-        let all = outcomes.chain(tags).chain(group);
+        let lines = LINES.into_iter().map(Thing::Line);
+        let addresses = (0..16).map(Thing::Address);
+        let all = outcomes.chain(tags).chain(lines).chain(addresses);
+        let all = all.chain(group::cases()).chain(group::alignments());
+        let all = all.chain(kinds::all()).chain(messages::all());
         all.filter(|thing| !self.counts.contains_key(thing)).collect()
-    }
-}
-
-fn accepted_name(operation: &Operation, buffer: Span, display: &Display) -> &'static str {
-    match (operation.alignment.is_some(), operation.release) {
-        (true, true) => "accepted, release and allocate",
-        (true, false) if buffer.base > display.region.base => {
-            "accepted, allocate above the region's base"
-        }
-        (true, false) => "accepted, allocate",
-        (false, true) => "accepted, release",
-        (false, false) if buffer.size > 0 => "accepted within the buffer that stands",
-        (false, false) => "accepted, no buffer and no allocate",
-    }
-}
-
-/// The rule that the settings break, where they break one alone.
-fn unsupported_name(settings: &Settings, display: &Display) -> Option<&'static str> {
-    let out = |side: u32| side == 0 || side > 4_096;
-    let Settings { physical, logical, offset, depth, order, alpha } = *settings;
-    let broken = [
-        (out(physical.width) || out(physical.height), "refused for the physical size"),
-        (out(logical.width) || out(logical.height), "refused for the virtual size"),
-        (!matches!(depth, 8 | 16 | 24 | 32), "refused for the depth"),
-        (order > 1, "refused for the pixel order"),
-        (alpha > 2, "refused for the alpha mode"),
-        (offset.x >= logical.width, "refused for the x offset"),
-        (offset.y >= logical.height, "refused for the y offset"),
-    ];
-    let mut names = broken.iter().filter(|(broken, _)| *broken).map(|(_, name)| *name);
-    match (names.next(), names.next()) {
-        (None, _) => Some("refused for a need above the region"),
-        (Some(_), Some(_)) => None,
-        (Some(name), None) => {
-            let sized = !broken[1].0 && !broken[2].0;
-            (!sized || need(settings) <= display.region.size).then_some(name)
-        }
     }
 }

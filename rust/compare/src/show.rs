@@ -1,7 +1,8 @@
 //! A case that disagrees, in words.
 
-use crate::case::{Call, Case, Disagreement, Side};
+use crate::case::{Call, Case};
 use crate::fields;
+use crate::sides::{run, Disagreement, Side};
 use interface::Board;
 
 /// How many differing words and fields are printed, and how many of the calls' last.
@@ -13,7 +14,13 @@ pub fn print(case: &Case, disagreement: &Disagreement, bench: &Board) {
     for ((name, value), _) in differing(&case.board, bench) {
         println!("    {} = {value} (0x{value:x})", fields::name(name));
     }
+    if address_matters(case) {
+        println!("  bytes lent at an address of {} modulo 16", case.address);
+    }
     let made = &case.calls[..=disagreement.call];
+    if !matches!(made[0], Call::Lend(_)) {
+        println!("  no bytes lent");
+    }
     for (index, call) in made.iter().enumerate() {
         if index < 2 || index + MOST > disagreement.call {
             println!("  {}. {}", index + 1, call_text(call));
@@ -24,6 +31,10 @@ pub fn print(case: &Case, disagreement: &Disagreement, bench: &Board) {
     let call = &made[disagreement.call];
     let Disagreement { library, rules, .. } = disagreement;
     println!("  library: {}", numbers_text(call, library));
+    if let Some(panic) = &rules.panic {
+        println!("  rules:   panic: {panic}");
+        return;
+    }
     println!("  rules:   {}", numbers_text(call, rules));
     print_bytes(library, rules);
     for ((name, library), (_, rules)) in differing(&library.board, &rules.board).take(MOST) {
@@ -32,6 +43,11 @@ pub fn print(case: &Case, disagreement: &Disagreement, bench: &Board) {
             "  {name} afterwards: library {library} (0x{library:x}), rules {rules} (0x{rules:x})"
         );
     }
+}
+
+/// Whether the sides agree where the lent bytes stand at another address.
+fn address_matters(case: &Case) -> bool {
+    (0..16).any(|address| run(&Case { address, ..case.clone() }, None).is_none())
 }
 
 type Value = (fields::Name, u64);
@@ -68,6 +84,7 @@ fn call_text(call: &Call) -> String {
     };
     match call {
         Call::Lend(bytes) => format!("lend {} bytes:{}", bytes.len(), words_text(bytes)),
+        Call::Write { at, word } => format!("write word {word:08x} at {at}"),
         Call::Serve => "serve".to_string(),
         Call::Start => "start".to_string(),
         Call::Add { cursor, id, size, request } => format!(
@@ -94,12 +111,13 @@ fn numbers_text(call: &Call, side: &Side) -> String {
 }
 
 fn print_bytes(library: &Side, rules: &Side) {
-    let pairs = library.lent().chunks(4).zip(rules.lent().chunks(4)).enumerate();
+    let (one, other) = (library.bytes.lent(), rules.bytes.lent());
+    let pairs = one.chunks(4).zip(other.chunks(4)).enumerate();
     for (index, (library, rules)) in pairs.filter(|(_, (one, other))| one != other).take(MOST) {
         let (library, rules) = (words_text(library), words_text(rules));
         println!("  word {index} of the lent bytes: library{library}, rules{rules}");
     }
-    if library.lent() == rules.lent() && library.guarded() != rules.guarded() {
+    if !library.bytes.is_intact() {
         println!("  the library wrote outside the lent bytes");
     }
 }
