@@ -43,12 +43,8 @@ mod c {
             count: *mut u32,
         ) -> u32;
         pub fn vc_bench(board: *mut Board);
-        pub fn vc_serve(
-            board: *mut Board,
-            message: *mut u8,
-            length: usize,
-            place: *mut u32,
-        ) -> u32;
+        pub fn vc_serve(board: *mut Board, message: *mut u8, length: usize, place: *mut u32)
+            -> u32;
     }
 }
 
@@ -119,13 +115,7 @@ pub fn read(message: &[u8], id: u32, occurrence: usize, wanted: usize) -> Readin
             &mut count,
         )
     };
-    Reading {
-        outcome,
-        place: place as usize,
-        answer,
-        value: value as usize,
-        count: count as usize,
-    }
+    Reading { outcome, place: place as usize, answer, value: value as usize, count: count as usize }
 }
 
 /// The bench record.
