@@ -1,7 +1,7 @@
 //! Panics: those of the independent implementation are caught and kept in words.
 
 use std::cell::{Cell, RefCell};
-use std::panic::{catch_unwind, set_hook, take_hook, AssertUnwindSafe, PanicHookInfo};
+use std::panic::{catch_unwind, set_hook, take_hook, AssertUnwindSafe};
 
 thread_local! {
     static CATCHING: Cell<bool> = const { Cell::new(false) };
@@ -15,7 +15,7 @@ pub fn watch(seed: u64) {
     let usual = take_hook();
     set_hook(Box::new(move |panic| {
         if CATCHING.get() {
-            CAUGHT.set(words(panic));
+            CAUGHT.set(panic.to_string().replace('\n', " "));
         } else {
             eprintln!("panic in --seed {seed} --case {}", CASE.get());
             usual(panic);
@@ -33,15 +33,4 @@ pub fn caught<T>(call: impl FnOnce() -> T) -> Result<T, String> {
     let given = catch_unwind(AssertUnwindSafe(call));
     CATCHING.set(false);
     given.map_err(|_| CAUGHT.take())
-}
-
-fn words(panic: &PanicHookInfo) -> String {
-    let message = panic.payload_as_str().unwrap_or("no message");
-    match panic.location() {
-        // A path of the standard library says little.
-        Some(place) if !place.file().starts_with('/') => {
-            format!("{message} ({}, line {})", place.file(), place.line())
-        }
-        _ => message.to_string(),
-    }
 }

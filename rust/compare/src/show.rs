@@ -32,7 +32,7 @@ pub fn print(case: &Case, disagreement: &Disagreement, bench: &Board) {
     let Disagreement { library, rules, .. } = disagreement;
     println!("  library: {}", numbers_text(call, library));
     if let Some(panic) = &rules.panic {
-        println!("  rules:   panic: {panic}");
+        println!("  rules:   {panic}");
         return;
     }
     println!("  rules:   {}", numbers_text(call, rules));

@@ -45,14 +45,19 @@ impl Shrinker<'_> {
                     self.attempt(|case| plainer_number(&mut case.calls[call], number, keep));
                 }
             }
-            while self.attempt(|case| match &mut case.calls[call] {
-                Call::Add { request, .. } => request.truncate(request.len() / 2),
-                _ => {}
-            }) {}
-            while self.attempt(|case| match &mut case.calls[call] {
-                Call::Add { request, .. } => request.truncate(request.len().saturating_sub(1)),
-                _ => {}
-            }) {}
+            while self.attempt(|case| shorten_request(&mut case.calls[call], |length| length / 2)) {
+            }
+            while self.attempt(|case| shorten_request(&mut case.calls[call], |length| length - 1)) {
+            }
+        }
+    }
+}
+
+/// Cuts the request of an add to a length made from its own, where it has bytes.
+fn shorten_request(call: &mut Call, shorter: fn(usize) -> usize) {
+    if let Call::Add { request, .. } = call {
+        if !request.is_empty() {
+            request.truncate(shorter(request.len()));
         }
     }
 }
