@@ -2,7 +2,7 @@
 
 use interface::Board;
 
-#[derive(Clone)]
+#[derive(Clone, PartialEq)]
 #[rustfmt::skip]
 pub enum Call {
     /// Gives the calls behind it these bytes to work on.
@@ -34,7 +34,7 @@ impl Call {
     }
 }
 
-#[derive(Clone)]
+#[derive(Clone, PartialEq)]
 pub struct Case {
     pub board: Board,
     /// The lent bytes' address modulo 16.

@@ -28,7 +28,7 @@ use random::Random;
 use reached::Reached;
 use std::process::ExitCode;
 
-const MOST_DISAGREEMENTS: u32 = 5;
+const MOST_DISAGREEMENTS: usize = 5;
 
 fn main() -> ExitCode {
     let options = match options::options(std::env::args().skip(1)) {
@@ -58,7 +58,7 @@ fn main() -> ExitCode {
 
 /// Runs the cases; prints each disagreement, up to the most. Whether there was none.
 fn compare(options: &Options, bench: &Board, reached: &mut Reached) -> bool {
-    let mut disagreements = 0;
+    let mut small_cases = Vec::new();
     for number in options.cases.clone() {
         panics::case_under_way(number);
         let case = cases::generate(&mut Random::of_case(options.seed, number), bench);
@@ -68,15 +68,16 @@ fn compare(options: &Options, bench: &Board, reached: &mut Reached) -> bool {
         println!("disagreement, repeated by --seed {} --case {number}", options.seed);
         let small = shrink::shrink(case, bench);
         match sides::run(&small, None) {
+            Some(_) if small_cases.contains(&small) => println!("  the same small case as above"),
             Some(disagreement) => show::print(&small, &disagreement, bench),
             None => println!("  the same calls a second time agree"),
         }
-        disagreements += 1;
-        if disagreements == MOST_DISAGREEMENTS {
+        small_cases.push(small);
+        if small_cases.len() == MOST_DISAGREEMENTS {
             break;
         }
     }
-    disagreements == 0
+    small_cases.is_empty()
 }
 
 fn all_reached(reached: &Reached) -> bool {
