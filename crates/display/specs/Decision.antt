@@ -9,11 +9,8 @@ use Rattle.board.specs.declared.display.Display.{Display}
 use Rattle.board.specs.declared.display.Settings.{Settings}
 use Rattle.board.specs.declared.facts.Span.{Span}
 use Rattle.table.specs.declared.kinds.FrameTag.{FrameTag}
-use Rattle.table.specs.declared.kinds.Kind.{Kind}
-use Rattle.table.specs.declared.rows.Row.{Row}
 use Rattle.table.specs.declared.kinds.Setting.{Setting}
 use Rattle.answers.specs.declared.answer.Answer.{Answer}
-use Rattle.display.specs.declared.answer.Told.{Told}
 use Rattle.display.specs.declared.decision.Decision.{Decision}
 use Rattle.display.specs.declared.operation.Operation.{Operation}
 
@@ -54,9 +51,9 @@ bufferAfter false false d o = d .buffer
 abbrev pub showing : Settings → Display → Decision
 showing s d = record { answered = true; shown = s; pitch = pitch s; placed = nowhere; display = d }
 
--- tests together with other tags: no group tag is answered, and no setting changes
-abbrev pub mixed : Display → Decision
-mixed d = record { answered = false; shown = d .settings; pitch = pitch (d .settings); placed = nowhere; display = d }
+-- the group is left alone: no tag of it is answered, and nothing changes
+abbrev pub leftAlone : Display → Decision
+leftAlone d = record { answered = false; shown = d .settings; pitch = pitch (d .settings); placed = nowhere; display = d }
 
 -- tests only: each answers the proposal where it is supported, and the current value where not; nothing changes
 abbrev pub tested : (isSupported : Bool) → Display → Operation → Decision
@@ -74,10 +71,12 @@ carriedOut true d o = record {
 }
 carriedOut false d o = showing (d .settings) d
 
+-- tests together with other tags leave the group alone; without a group tag there is nothing to decide
 abbrev pub decidedBy : (tests others : Bool) → Display → Operation → Decision
-decidedBy true true d o = mixed d
+decidedBy true true d o = leftAlone d
 decidedBy true false d o = tested (supported (d .region .size) (o .proposal)) d o
-decidedBy false others d o = carriedOut (accepted d o) d o
+decidedBy false true d o = carriedOut (accepted d o) d o
+decidedBy false false d o = leftAlone d
 
 unfoldable pub decided : Display → Operation → Decision
 decided d o = decidedBy (o .tests) (o .others) d o
@@ -97,13 +96,3 @@ groupAnswer d (FrameTag.Of m s) = settingAnswer s (d .shown)
 groupAnswer d FrameTag.Pitch = Answer.Word (d .pitch)
 groupAnswer d FrameTag.Allocate = Answer.Pair (d .placed .base) (d .placed .size)
 groupAnswer d FrameTag.Release = Answer.Nothing
-
--- what a tag of this row is told: an answer where it is one of the group
-unfoldable pub toldBy : Decision → Row → Told
-toldBy d (Row.Known (Kind.Frame t) length) = Told.Says (groupAnswer d t)
-toldBy d (Row.Known (Kind.Fact t) length) = Told.Nothing
-toldBy d (Row.Known (Kind.Power t) length) = Told.Nothing
-toldBy d (Row.Known (Kind.Clock t) length) = Told.Nothing
-toldBy d (Row.Known (Kind.Voltage t) length) = Told.Nothing
-toldBy d (Row.Known (Kind.Temperature t) length) = Told.Nothing
-toldBy d Row.Unknown = Told.Nothing

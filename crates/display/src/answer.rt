@@ -1,37 +1,57 @@
 // What the tags of the group answer.
 use crate::decision::Decision;
 use answers::answer::Answer;
+use answers::reply::put_answer;
+use board::display::Settings;
+use board::facts::Facts;
+use table::kinds::FrameTag;
+use table::kinds::Setting;
 ghost use mathlib.Core.Path.{_≡_};
-ghost use Rattle.table.specs.Table.{rowOf};
-ghost use Rattle.display.specs.Decision.{toldBy};
+ghost use lib.ListN.{length};
+ghost use Rattle.answers.specs.Reply.{AnswerFits};
+ghost use Rattle.display.specs.Decision.{settingAnswer, groupAnswer};
+ghost use Rattle.display.specs.Told.{told};
 
-// The answer of a tag of the group; no other tag is told anything.
-pub enum Told {
-    Says(Answer),
-    Nothing,
+fn setting_answer(s: Settings, setting: Setting) -> Answer
+    ensures { λ r. ⌜ r ≡ settingAnswer setting s ⌝ }
+{
+    match setting {
+        Setting::Physical => Answer::Pair(s.physical.width, s.physical.height),
+        Setting::Virtual => Answer::Pair(s.logical.width, s.logical.height),
+        Setting::Depth => Answer::Word(s.depth),
+        Setting::Order => Answer::Word(s.order),
+        Setting::Alpha => Answer::Word(s.alpha),
+        Setting::Offset => Answer::Pair(s.offset.x, s.offset.y),
+    }
 }
 
-// What the tag of this id is told. Get, test and set of a setting answer alike.
-pub fn answer_of(d: Decision, id: u32) -> Told
-    ensures { λ r. ⌜ r ≡ toldBy d (rowOf id) ⌝ }
+// What a tag of the group answers. Get, test and set of a setting answer alike.
+fn group_answer(d: Decision, tag: FrameTag) -> Answer
+    ensures { λ r. ⌜ r ≡ groupAnswer d tag ⌝ }
 {
-    let s = d.shown;
-    match id {
-        0x0004_0003 | 0x0004_4003 | 0x0004_8003 => {
-            Told::Says(Answer::Pair(s.physical.width, s.physical.height))
-        }
-        0x0004_0004 | 0x0004_4004 | 0x0004_8004 => {
-            Told::Says(Answer::Pair(s.logical.width, s.logical.height))
-        }
-        0x0004_0005 | 0x0004_4005 | 0x0004_8005 => Told::Says(Answer::Word(s.depth)),
-        0x0004_0006 | 0x0004_4006 | 0x0004_8006 => Told::Says(Answer::Word(s.order)),
-        0x0004_0007 | 0x0004_4007 | 0x0004_8007 => Told::Says(Answer::Word(s.alpha)),
-        0x0004_0009 | 0x0004_4009 | 0x0004_8009 => {
-            Told::Says(Answer::Pair(s.offset.x, s.offset.y))
-        }
-        0x0004_0008 => Told::Says(Answer::Word(d.pitch)),
-        0x0004_0001 => Told::Says(Answer::Pair(d.placed.base, d.placed.size)),
-        0x0004_8001 => Told::Says(Answer::Nothing),
-        _ => Told::Nothing,
+    match tag {
+        FrameTag::Of(_, setting) => setting_answer(d.shown, setting),
+        FrameTag::Pitch => Answer::Word(d.pitch),
+        FrameTag::Allocate => Answer::Pair(d.placed.base, d.placed.size),
+        FrameTag::Release => Answer::Nothing,
+    }
+}
+
+// Answers the tag of the group at `at`, whose value has `size` bytes, where the decision says so. No
+// entry point: the walk above has found the tag in the message.
+pub fn put_told(
+    msg: &mut [u8],
+    at: usize,
+    size: u32,
+    d: Decision,
+    tag: FrameTag,
+    facts: Facts,
+    line: &[u8],
+)
+    requires { ⌜ AnswerFits (length (now msg)) at size (length (now line)) ⌝ }
+    ensures { λ _. ⌜ now (msg .exit) ≡ told d tag at size facts (now (line .entry)) (now (msg .entry)) ⌝ }
+{
+    if d.answered {
+        put_answer(msg, at, size, group_answer(d, tag), facts, line);
     }
 }

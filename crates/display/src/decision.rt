@@ -11,7 +11,7 @@ ghost use mathlib.Core.Path.{_≡_};
 ghost use Rattle.words.specs.Round.{roundUp};
 ghost use Rattle.board.specs.Display.{possible, supported};
 ghost use Rattle.board.specs.Valid.{validDisplay};
-ghost use Rattle.display.specs.Decision.{nowhere, oneBit, placedAt, allocatable, fitsBuffer, accepted, showing, mixed, tested, carriedOut, decided};
+ghost use Rattle.display.specs.Decision.{nowhere, oneBit, placedAt, allocatable, fitsBuffer, accepted, showing, leftAlone, tested, carriedOut, decided};
 
 // Whether the group's tags are answered, the settings, the pitch and the buffer that they answer,
 // and the display afterwards.
@@ -127,10 +127,10 @@ fn show(s: Settings, d: Display) -> Decision
     }
 }
 
-// The group is not answered, and nothing changes. No entry point: for a valid display.
+// The group is left alone. No entry point: for a valid display.
 pub fn leave(d: Display) -> Decision
     requires { ⌜ validDisplay d ≡ true ⌝ }
-    ensures { λ r. ⌜ r ≡ mixed d ⌝ }
+    ensures { λ r. ⌜ r ≡ leftAlone d ⌝ }
 {
     let mut decision = show(d.settings, d);
     decision.answered = false;
@@ -177,8 +177,11 @@ pub fn decide(d: Display, o: Operation) -> Decision
         }
         return test(d, o);
     }
-    if is_accepted(d, o) {
-        return carry_out(d, o);
+    if o.others {
+        if is_accepted(d, o) {
+            return carry_out(d, o);
+        }
+        return show(d.settings, d);
     }
-    show(d.settings, d)
+    leave(d)
 }

@@ -1,3 +1,2 @@
 // What the tags of a message ask of the board.
 pub mod ask;
-pub mod group;

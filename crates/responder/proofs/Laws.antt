@@ -1,13 +1,9 @@
-pub mod Said
 pub mod Fixed
 pub mod Saids
-pub mod Serving
 pub mod Written
 pub mod Apart
-pub mod Twice
 pub mod Group
-pub mod Concluding
-pub mod Progress
-pub mod Answering
+pub mod Twice
+pub mod Serving
 pub mod Responding
 pub mod Place

@@ -1,5 +1,3 @@
 pub mod Answers
 pub mod Reply
-pub mod Asked
 pub mod Serve
-pub mod Progress

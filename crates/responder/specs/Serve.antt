@@ -1,26 +1,30 @@
--- What a walk writes, and the group that is decided after it.
-use mathlib.Core.Bool.{Bool, cond, _||_}
+-- Describes code: what a walk over a message's tags writes and gives.
+use mathlib.Core.Bool.{cond}
 use mathlib.Core.List.{List}
 use Prim.Native.Nat.{ℕ}
-use Rattle.board.specs.declared.display.Display.{Display}
+use Rattle.message.specs.Builder.{Call, leaves}
+use Rattle.message.specs.Sizes.{header}
 use Rattle.board.specs.declared.record.Board.{Board}
-use Rattle.display.specs.Decision.{mixed}
+use Rattle.display.specs.Operation.{unasked}
 use Rattle.display.specs.declared.decision.Decision.{Decision}
 use Rattle.display.specs.declared.operation.Operation.{Operation}
-use Rattle.requests.specs.Requests.{Trail}
-use Rattle.responder.specs.Answers.{groupBy, groupOf, answers}
+use Rattle.requests.specs.Requests.{Trail, trail}
+use Rattle.responder.specs.Answers.{operation, answers, after}
 use Rattle.responder.specs.Reply.{writeAll}
+use Rattle.responder.specs.declared.walk.TagsServed.{TagsServed}
 
 abbrev pub bytesOf : Decision → Board → Trail → List ℕ → List ℕ
 bytesOf g b tr m = writeAll (tr .tags) (answers g b (tr .requests)) m
 
-abbrev pub groupIn : Board → Trail → Decision
-groupIn b tr = groupOf (b .display) (tr .ending) (tr .requests)
+-- a trail served on a record, with the group decided as g, from an operation on
+abbrev pub trailServed : Decision → Board → Operation → Trail → List ℕ → Call TagsServed
+trailServed g b o tr m =
+    leaves (bytesOf g b tr m)
+    (record { ending = tr .ending; operation = operation o (tr .requests); board = after b (tr .requests) })
 
--- an operation of at least one tag
-abbrev pub asked : Operation → Bool
-asked o = o .tests || o .others
+abbrev pub tagsServed : Decision → Board → List ℕ → (size : ℕ) → Call TagsServed
+tagsServed g b m size = trailServed g b (unasked (b .display .settings)) (trail m size header) m
 
--- the group as it is decided after the first walk: without a group tag there is nothing to decide
-abbrev pub groupFor : (faultless : Bool) → Display → Operation → Decision
-groupFor faultless d o = cond (asked o) (groupBy faultless d o) (mixed d)
+-- the message after the second walk, which is not taken where the group is left alone
+abbrev pub groupServed : Decision → Board → List ℕ → (size : ℕ) → List ℕ
+groupServed g b m size = cond (g .answered) (bytesOf g b (trail m size header) m) m

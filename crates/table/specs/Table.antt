@@ -8,6 +8,7 @@ use Rattle.table.specs.declared.kinds.FactTag.{FactTag}
 use Rattle.table.specs.declared.kinds.FrameTag.{FrameTag}
 use Rattle.table.specs.declared.kinds.Kind.{Kind}
 use Rattle.table.specs.declared.kinds.Mode.{Mode}
+use Rattle.table.specs.declared.kinds.OutsideTag.{OutsideTag}
 use Rattle.table.specs.declared.kinds.PowerTag.{PowerTag}
 use Rattle.table.specs.declared.rows.Row.{Row}
 use Rattle.table.specs.declared.kinds.Setting.{Setting}
@@ -24,64 +25,80 @@ pub record Entry : Type 0 where
 abbrev pub entry : (id request answer : ℕ) → Kind → Entry
 entry id request answer kind = record { id = id; request = request; answer = answer; kind = kind }
 
+-- the families outside the frame buffer group
+abbrev pub fact : FactTag → Kind
+fact t = Kind.Outside (OutsideTag.Fact t)
+
+abbrev pub power : PowerTag → Kind
+power t = Kind.Outside (OutsideTag.Power t)
+
+abbrev pub clock : ClockTag → Kind
+clock t = Kind.Outside (OutsideTag.Clock t)
+
+abbrev pub voltage : VoltageTag → Kind
+voltage t = Kind.Outside (OutsideTag.Voltage t)
+
+abbrev pub temperature : TemperatureTag → Kind
+temperature t = Kind.Outside (OutsideTag.Temperature t)
+
 -- The command line's answer has its own length, 256 at most.
 unfoldable pub outsideTags : List Entry
 outsideTags =
     -- fixed facts
-    entry 0x0000_0001 0 4 (Kind.Fact FactTag.Firmware)
-    ∷ entry 0x0001_0001 0 4 (Kind.Fact FactTag.Model)
-    ∷ entry 0x0001_0002 0 4 (Kind.Fact FactTag.Revision)
-    ∷ entry 0x0001_0003 0 6 (Kind.Fact FactTag.Mac)
-    ∷ entry 0x0001_0004 0 8 (Kind.Fact FactTag.Serial)
-    ∷ entry 0x0001_0005 0 8 (Kind.Fact FactTag.Arm)
-    ∷ entry 0x0001_0006 0 8 (Kind.Fact FactTag.Vc)
-    ∷ entry 0x0005_0001 0 256 (Kind.Fact FactTag.Line)
-    ∷ entry 0x0006_0001 0 4 (Kind.Fact FactTag.Dma)
+    entry 0x0000_0001 0 4 (fact FactTag.Firmware)
+    ∷ entry 0x0001_0001 0 4 (fact FactTag.Model)
+    ∷ entry 0x0001_0002 0 4 (fact FactTag.Revision)
+    ∷ entry 0x0001_0003 0 6 (fact FactTag.Mac)
+    ∷ entry 0x0001_0004 0 8 (fact FactTag.Serial)
+    ∷ entry 0x0001_0005 0 8 (fact FactTag.Arm)
+    ∷ entry 0x0001_0006 0 8 (fact FactTag.Vc)
+    ∷ entry 0x0005_0001 0 256 (fact FactTag.Line)
+    ∷ entry 0x0006_0001 0 4 (fact FactTag.Dma)
     -- power
-    ∷ entry 0x0002_0001 4 8 (Kind.Power PowerTag.State)
-    ∷ entry 0x0002_0002 4 8 (Kind.Power PowerTag.Timing)
-    ∷ entry 0x0002_8001 8 8 (Kind.Power PowerTag.SetState)
+    ∷ entry 0x0002_0001 4 8 (power PowerTag.State)
+    ∷ entry 0x0002_0002 4 8 (power PowerTag.Timing)
+    ∷ entry 0x0002_8001 8 8 (power PowerTag.SetState)
     -- clocks
-    ∷ entry 0x0003_0001 4 8 (Kind.Clock ClockTag.State)
-    ∷ entry 0x0003_8001 8 8 (Kind.Clock ClockTag.SetState)
-    ∷ entry 0x0003_0002 4 8 (Kind.Clock ClockTag.Rate)
-    ∷ entry 0x0003_0004 4 8 (Kind.Clock ClockTag.Max)
-    ∷ entry 0x0003_0007 4 8 (Kind.Clock ClockTag.Min)
-    ∷ entry 0x0003_8002 8 8 (Kind.Clock ClockTag.SetRate)
+    ∷ entry 0x0003_0001 4 8 (clock ClockTag.State)
+    ∷ entry 0x0003_8001 8 8 (clock ClockTag.SetState)
+    ∷ entry 0x0003_0002 4 8 (clock ClockTag.Rate)
+    ∷ entry 0x0003_0004 4 8 (clock ClockTag.Max)
+    ∷ entry 0x0003_0007 4 8 (clock ClockTag.Min)
+    ∷ entry 0x0003_8002 8 8 (clock ClockTag.SetRate)
     -- voltage
-    ∷ entry 0x0003_0003 4 8 (Kind.Voltage VoltageTag.Get)
-    ∷ entry 0x0003_8003 8 8 (Kind.Voltage VoltageTag.Set)
-    ∷ entry 0x0003_0005 4 8 (Kind.Voltage VoltageTag.Max)
-    ∷ entry 0x0003_0008 4 8 (Kind.Voltage VoltageTag.Min)
+    ∷ entry 0x0003_0003 4 8 (voltage VoltageTag.Get)
+    ∷ entry 0x0003_8003 8 8 (voltage VoltageTag.Set)
+    ∷ entry 0x0003_0005 4 8 (voltage VoltageTag.Max)
+    ∷ entry 0x0003_0008 4 8 (voltage VoltageTag.Min)
     -- temperature
-    ∷ entry 0x0003_0006 4 8 (Kind.Temperature TemperatureTag.Current)
-    ∷ entry 0x0003_000a 4 8 (Kind.Temperature TemperatureTag.Max)
+    ∷ entry 0x0003_0006 4 8 (temperature TemperatureTag.Current)
+    ∷ entry 0x0003_000a 4 8 (temperature TemperatureTag.Max)
     ∷ []
 
 -- the frame buffer group: get, test and set of each setting, then pitch, allocate, release
 unfoldable pub groupTags : List Entry
 groupTags =
-    entry 0x0004_0003 0 8 (Kind.Frame (FrameTag.Of Mode.Get Setting.Physical))
-    ∷ entry 0x0004_4003 8 8 (Kind.Frame (FrameTag.Of Mode.Test Setting.Physical))
-    ∷ entry 0x0004_8003 8 8 (Kind.Frame (FrameTag.Of Mode.Set Setting.Physical))
-    ∷ entry 0x0004_0004 0 8 (Kind.Frame (FrameTag.Of Mode.Get Setting.Virtual))
-    ∷ entry 0x0004_4004 8 8 (Kind.Frame (FrameTag.Of Mode.Test Setting.Virtual))
-    ∷ entry 0x0004_8004 8 8 (Kind.Frame (FrameTag.Of Mode.Set Setting.Virtual))
-    ∷ entry 0x0004_0005 0 4 (Kind.Frame (FrameTag.Of Mode.Get Setting.Depth))
-    ∷ entry 0x0004_4005 4 4 (Kind.Frame (FrameTag.Of Mode.Test Setting.Depth))
-    ∷ entry 0x0004_8005 4 4 (Kind.Frame (FrameTag.Of Mode.Set Setting.Depth))
-    ∷ entry 0x0004_0006 0 4 (Kind.Frame (FrameTag.Of Mode.Get Setting.Order))
-    ∷ entry 0x0004_4006 4 4 (Kind.Frame (FrameTag.Of Mode.Test Setting.Order))
-    ∷ entry 0x0004_8006 4 4 (Kind.Frame (FrameTag.Of Mode.Set Setting.Order))
-    ∷ entry 0x0004_0007 0 4 (Kind.Frame (FrameTag.Of Mode.Get Setting.Alpha))
-    ∷ entry 0x0004_4007 4 4 (Kind.Frame (FrameTag.Of Mode.Test Setting.Alpha))
-    ∷ entry 0x0004_8007 4 4 (Kind.Frame (FrameTag.Of Mode.Set Setting.Alpha))
-    ∷ entry 0x0004_0009 0 8 (Kind.Frame (FrameTag.Of Mode.Get Setting.Offset))
-    ∷ entry 0x0004_4009 8 8 (Kind.Frame (FrameTag.Of Mode.Test Setting.Offset))
-    ∷ entry 0x0004_8009 8 8 (Kind.Frame (FrameTag.Of Mode.Set Setting.Offset))
-    ∷ entry 0x0004_0008 0 4 (Kind.Frame FrameTag.Pitch)
-    ∷ entry 0x0004_0001 4 8 (Kind.Frame FrameTag.Allocate)
-    ∷ entry 0x0004_8001 0 0 (Kind.Frame FrameTag.Release)
+    entry 0x0004_0003 0 8 (Kind.Group (FrameTag.Of Mode.Get Setting.Physical))
+    ∷ entry 0x0004_4003 8 8 (Kind.Group (FrameTag.Of Mode.Test Setting.Physical))
+    ∷ entry 0x0004_8003 8 8 (Kind.Group (FrameTag.Of Mode.Set Setting.Physical))
+    ∷ entry 0x0004_0004 0 8 (Kind.Group (FrameTag.Of Mode.Get Setting.Virtual))
+    ∷ entry 0x0004_4004 8 8 (Kind.Group (FrameTag.Of Mode.Test Setting.Virtual))
+    ∷ entry 0x0004_8004 8 8 (Kind.Group (FrameTag.Of Mode.Set Setting.Virtual))
+    ∷ entry 0x0004_0005 0 4 (Kind.Group (FrameTag.Of Mode.Get Setting.Depth))
+    ∷ entry 0x0004_4005 4 4 (Kind.Group (FrameTag.Of Mode.Test Setting.Depth))
+    ∷ entry 0x0004_8005 4 4 (Kind.Group (FrameTag.Of Mode.Set Setting.Depth))
+    ∷ entry 0x0004_0006 0 4 (Kind.Group (FrameTag.Of Mode.Get Setting.Order))
+    ∷ entry 0x0004_4006 4 4 (Kind.Group (FrameTag.Of Mode.Test Setting.Order))
+    ∷ entry 0x0004_8006 4 4 (Kind.Group (FrameTag.Of Mode.Set Setting.Order))
+    ∷ entry 0x0004_0007 0 4 (Kind.Group (FrameTag.Of Mode.Get Setting.Alpha))
+    ∷ entry 0x0004_4007 4 4 (Kind.Group (FrameTag.Of Mode.Test Setting.Alpha))
+    ∷ entry 0x0004_8007 4 4 (Kind.Group (FrameTag.Of Mode.Set Setting.Alpha))
+    ∷ entry 0x0004_0009 0 8 (Kind.Group (FrameTag.Of Mode.Get Setting.Offset))
+    ∷ entry 0x0004_4009 8 8 (Kind.Group (FrameTag.Of Mode.Test Setting.Offset))
+    ∷ entry 0x0004_8009 8 8 (Kind.Group (FrameTag.Of Mode.Set Setting.Offset))
+    ∷ entry 0x0004_0008 0 4 (Kind.Group FrameTag.Pitch)
+    ∷ entry 0x0004_0001 4 8 (Kind.Group FrameTag.Allocate)
+    ∷ entry 0x0004_8001 0 0 (Kind.Group FrameTag.Release)
     ∷ []
 
 unfoldable pub table : List Entry
@@ -94,7 +111,3 @@ find id (e ∷ es) = cond (eqb id (e .id)) (Row.Known (e .kind) (e .request)) (f
 -- the row of an id: that of its entry, or unknown
 unfoldable pub rowOf : ℕ → Row
 rowOf id = find id table
-
--- every id of the table is below this: one from here on is unknown
-abbrev pub tableEnd : ℕ
-tableEnd = 0x0007_0000

@@ -61,12 +61,17 @@ pub enum FrameTag {
     Release,
 }
 
-// What a known tag asks. The frame buffer group is `Frame`.
-pub enum Kind {
+// What a known tag outside the frame buffer group asks, by family.
+pub enum OutsideTag {
     Fact(FactTag),
     Power(PowerTag),
     Clock(ClockTag),
     Voltage(VoltageTag),
     Temperature(TemperatureTag),
-    Frame(FrameTag),
+}
+
+// What a known tag asks: of the frame buffer group, or outside it.
+pub enum Kind {
+    Outside(OutsideTag),
+    Group(FrameTag),
 }

@@ -4,14 +4,13 @@ use crate::kinds::FactTag;
 use crate::kinds::FrameTag;
 use crate::kinds::Kind;
 use crate::kinds::Mode;
+use crate::kinds::OutsideTag;
 use crate::kinds::PowerTag;
 use crate::kinds::Setting;
 use crate::kinds::TemperatureTag;
 use crate::kinds::VoltageTag;
 ghost use mathlib.Core.Path.{_≡_};
-ghost use Prim.Native.Nat.{_<_, _≤_};
-ghost use lib.Dec.{leb};
-ghost use Rattle.table.specs.Table.{rowOf, tableEnd};
+ghost use Rattle.table.specs.Table.{rowOf};
 
 // The row of an id: what it asks and the length of its request.
 pub enum Row {
@@ -24,90 +23,57 @@ pub fn row_of(id: u32) -> Row
     ensures { λ r. ⌜ r ≡ rowOf id ⌝ }
 {
     match id {
-        0x0000_0001 => Row::Known(Kind::Fact(FactTag::Firmware), 0),
-        0x0001_0001 => Row::Known(Kind::Fact(FactTag::Model), 0),
-        0x0001_0002 => Row::Known(Kind::Fact(FactTag::Revision), 0),
-        0x0001_0003 => Row::Known(Kind::Fact(FactTag::Mac), 0),
-        0x0001_0004 => Row::Known(Kind::Fact(FactTag::Serial), 0),
-        0x0001_0005 => Row::Known(Kind::Fact(FactTag::Arm), 0),
-        0x0001_0006 => Row::Known(Kind::Fact(FactTag::Vc), 0),
-        0x0005_0001 => Row::Known(Kind::Fact(FactTag::Line), 0),
-        0x0006_0001 => Row::Known(Kind::Fact(FactTag::Dma), 0),
-        0x0002_0001 => Row::Known(Kind::Power(PowerTag::State), 4),
-        0x0002_0002 => Row::Known(Kind::Power(PowerTag::Timing), 4),
-        0x0002_8001 => Row::Known(Kind::Power(PowerTag::SetState), 8),
-        0x0003_0001 => Row::Known(Kind::Clock(ClockTag::State), 4),
-        0x0003_8001 => Row::Known(Kind::Clock(ClockTag::SetState), 8),
-        0x0003_0002 => Row::Known(Kind::Clock(ClockTag::Rate), 4),
-        0x0003_0004 => Row::Known(Kind::Clock(ClockTag::Max), 4),
-        0x0003_0007 => Row::Known(Kind::Clock(ClockTag::Min), 4),
-        0x0003_8002 => Row::Known(Kind::Clock(ClockTag::SetRate), 8),
-        0x0003_0003 => Row::Known(Kind::Voltage(VoltageTag::Get), 4),
-        0x0003_8003 => Row::Known(Kind::Voltage(VoltageTag::Set), 8),
-        0x0003_0005 => Row::Known(Kind::Voltage(VoltageTag::Max), 4),
-        0x0003_0008 => Row::Known(Kind::Voltage(VoltageTag::Min), 4),
-        0x0003_0006 => Row::Known(Kind::Temperature(TemperatureTag::Current), 4),
-        0x0003_000a => Row::Known(Kind::Temperature(TemperatureTag::Max), 4),
-        0x0004_0003 => Row::Known(Kind::Frame(FrameTag::Of(Mode::Get, Setting::Physical)), 0),
-        0x0004_4003 => Row::Known(Kind::Frame(FrameTag::Of(Mode::Test, Setting::Physical)), 8),
-        0x0004_8003 => Row::Known(Kind::Frame(FrameTag::Of(Mode::Set, Setting::Physical)), 8),
-        0x0004_0004 => Row::Known(Kind::Frame(FrameTag::Of(Mode::Get, Setting::Virtual)), 0),
-        0x0004_4004 => Row::Known(Kind::Frame(FrameTag::Of(Mode::Test, Setting::Virtual)), 8),
-        0x0004_8004 => Row::Known(Kind::Frame(FrameTag::Of(Mode::Set, Setting::Virtual)), 8),
-        0x0004_0005 => Row::Known(Kind::Frame(FrameTag::Of(Mode::Get, Setting::Depth)), 0),
-        0x0004_4005 => Row::Known(Kind::Frame(FrameTag::Of(Mode::Test, Setting::Depth)), 4),
-        0x0004_8005 => Row::Known(Kind::Frame(FrameTag::Of(Mode::Set, Setting::Depth)), 4),
-        0x0004_0006 => Row::Known(Kind::Frame(FrameTag::Of(Mode::Get, Setting::Order)), 0),
-        0x0004_4006 => Row::Known(Kind::Frame(FrameTag::Of(Mode::Test, Setting::Order)), 4),
-        0x0004_8006 => Row::Known(Kind::Frame(FrameTag::Of(Mode::Set, Setting::Order)), 4),
-        0x0004_0007 => Row::Known(Kind::Frame(FrameTag::Of(Mode::Get, Setting::Alpha)), 0),
-        0x0004_4007 => Row::Known(Kind::Frame(FrameTag::Of(Mode::Test, Setting::Alpha)), 4),
-        0x0004_8007 => Row::Known(Kind::Frame(FrameTag::Of(Mode::Set, Setting::Alpha)), 4),
-        0x0004_0009 => Row::Known(Kind::Frame(FrameTag::Of(Mode::Get, Setting::Offset)), 0),
-        0x0004_4009 => Row::Known(Kind::Frame(FrameTag::Of(Mode::Test, Setting::Offset)), 8),
-        0x0004_8009 => Row::Known(Kind::Frame(FrameTag::Of(Mode::Set, Setting::Offset)), 8),
-        0x0004_0008 => Row::Known(Kind::Frame(FrameTag::Pitch), 0),
-        0x0004_0001 => Row::Known(Kind::Frame(FrameTag::Allocate), 4),
-        0x0004_8001 => Row::Known(Kind::Frame(FrameTag::Release), 0),
+        0x0000_0001 => Row::Known(Kind::Outside(OutsideTag::Fact(FactTag::Firmware)), 0),
+        0x0001_0001 => Row::Known(Kind::Outside(OutsideTag::Fact(FactTag::Model)), 0),
+        0x0001_0002 => Row::Known(Kind::Outside(OutsideTag::Fact(FactTag::Revision)), 0),
+        0x0001_0003 => Row::Known(Kind::Outside(OutsideTag::Fact(FactTag::Mac)), 0),
+        0x0001_0004 => Row::Known(Kind::Outside(OutsideTag::Fact(FactTag::Serial)), 0),
+        0x0001_0005 => Row::Known(Kind::Outside(OutsideTag::Fact(FactTag::Arm)), 0),
+        0x0001_0006 => Row::Known(Kind::Outside(OutsideTag::Fact(FactTag::Vc)), 0),
+        0x0005_0001 => Row::Known(Kind::Outside(OutsideTag::Fact(FactTag::Line)), 0),
+        0x0006_0001 => Row::Known(Kind::Outside(OutsideTag::Fact(FactTag::Dma)), 0),
+        0x0002_0001 => Row::Known(Kind::Outside(OutsideTag::Power(PowerTag::State)), 4),
+        0x0002_0002 => Row::Known(Kind::Outside(OutsideTag::Power(PowerTag::Timing)), 4),
+        0x0002_8001 => Row::Known(Kind::Outside(OutsideTag::Power(PowerTag::SetState)), 8),
+        0x0003_0001 => Row::Known(Kind::Outside(OutsideTag::Clock(ClockTag::State)), 4),
+        0x0003_8001 => Row::Known(Kind::Outside(OutsideTag::Clock(ClockTag::SetState)), 8),
+        0x0003_0002 => Row::Known(Kind::Outside(OutsideTag::Clock(ClockTag::Rate)), 4),
+        0x0003_0004 => Row::Known(Kind::Outside(OutsideTag::Clock(ClockTag::Max)), 4),
+        0x0003_0007 => Row::Known(Kind::Outside(OutsideTag::Clock(ClockTag::Min)), 4),
+        0x0003_8002 => Row::Known(Kind::Outside(OutsideTag::Clock(ClockTag::SetRate)), 8),
+        0x0003_0003 => Row::Known(Kind::Outside(OutsideTag::Voltage(VoltageTag::Get)), 4),
+        0x0003_8003 => Row::Known(Kind::Outside(OutsideTag::Voltage(VoltageTag::Set)), 8),
+        0x0003_0005 => Row::Known(Kind::Outside(OutsideTag::Voltage(VoltageTag::Max)), 4),
+        0x0003_0008 => Row::Known(Kind::Outside(OutsideTag::Voltage(VoltageTag::Min)), 4),
+        0x0003_0006 => Row::Known(
+            Kind::Outside(OutsideTag::Temperature(TemperatureTag::Current)),
+            4,
+        ),
+        0x0003_000a => Row::Known(
+            Kind::Outside(OutsideTag::Temperature(TemperatureTag::Max)),
+            4,
+        ),
+        0x0004_0003 => Row::Known(Kind::Group(FrameTag::Of(Mode::Get, Setting::Physical)), 0),
+        0x0004_4003 => Row::Known(Kind::Group(FrameTag::Of(Mode::Test, Setting::Physical)), 8),
+        0x0004_8003 => Row::Known(Kind::Group(FrameTag::Of(Mode::Set, Setting::Physical)), 8),
+        0x0004_0004 => Row::Known(Kind::Group(FrameTag::Of(Mode::Get, Setting::Virtual)), 0),
+        0x0004_4004 => Row::Known(Kind::Group(FrameTag::Of(Mode::Test, Setting::Virtual)), 8),
+        0x0004_8004 => Row::Known(Kind::Group(FrameTag::Of(Mode::Set, Setting::Virtual)), 8),
+        0x0004_0005 => Row::Known(Kind::Group(FrameTag::Of(Mode::Get, Setting::Depth)), 0),
+        0x0004_4005 => Row::Known(Kind::Group(FrameTag::Of(Mode::Test, Setting::Depth)), 4),
+        0x0004_8005 => Row::Known(Kind::Group(FrameTag::Of(Mode::Set, Setting::Depth)), 4),
+        0x0004_0006 => Row::Known(Kind::Group(FrameTag::Of(Mode::Get, Setting::Order)), 0),
+        0x0004_4006 => Row::Known(Kind::Group(FrameTag::Of(Mode::Test, Setting::Order)), 4),
+        0x0004_8006 => Row::Known(Kind::Group(FrameTag::Of(Mode::Set, Setting::Order)), 4),
+        0x0004_0007 => Row::Known(Kind::Group(FrameTag::Of(Mode::Get, Setting::Alpha)), 0),
+        0x0004_4007 => Row::Known(Kind::Group(FrameTag::Of(Mode::Test, Setting::Alpha)), 4),
+        0x0004_8007 => Row::Known(Kind::Group(FrameTag::Of(Mode::Set, Setting::Alpha)), 4),
+        0x0004_0009 => Row::Known(Kind::Group(FrameTag::Of(Mode::Get, Setting::Offset)), 0),
+        0x0004_4009 => Row::Known(Kind::Group(FrameTag::Of(Mode::Test, Setting::Offset)), 8),
+        0x0004_8009 => Row::Known(Kind::Group(FrameTag::Of(Mode::Set, Setting::Offset)), 8),
+        0x0004_0008 => Row::Known(Kind::Group(FrameTag::Pitch), 0),
+        0x0004_0001 => Row::Known(Kind::Group(FrameTag::Allocate), 4),
+        0x0004_8001 => Row::Known(Kind::Group(FrameTag::Release), 0),
         _ => Row::Unknown,
     }
-}
-
-// The row of an id from 0x0004_0000 on and below 0x0005_0000, where the frame buffer group stands.
-// No entry point: a smaller lookup, for the walk over the group's tags.
-pub fn frame_row(id: u32) -> Row
-    requires { ⌜ (0x0004_0000 ≤ id) × (id < 0x0005_0000) ⌝ }
-    ensures { λ r. ⌜ r ≡ rowOf id ⌝ }
-{
-    match id {
-        0x0004_0003 => Row::Known(Kind::Frame(FrameTag::Of(Mode::Get, Setting::Physical)), 0),
-        0x0004_4003 => Row::Known(Kind::Frame(FrameTag::Of(Mode::Test, Setting::Physical)), 8),
-        0x0004_8003 => Row::Known(Kind::Frame(FrameTag::Of(Mode::Set, Setting::Physical)), 8),
-        0x0004_0004 => Row::Known(Kind::Frame(FrameTag::Of(Mode::Get, Setting::Virtual)), 0),
-        0x0004_4004 => Row::Known(Kind::Frame(FrameTag::Of(Mode::Test, Setting::Virtual)), 8),
-        0x0004_8004 => Row::Known(Kind::Frame(FrameTag::Of(Mode::Set, Setting::Virtual)), 8),
-        0x0004_0005 => Row::Known(Kind::Frame(FrameTag::Of(Mode::Get, Setting::Depth)), 0),
-        0x0004_4005 => Row::Known(Kind::Frame(FrameTag::Of(Mode::Test, Setting::Depth)), 4),
-        0x0004_8005 => Row::Known(Kind::Frame(FrameTag::Of(Mode::Set, Setting::Depth)), 4),
-        0x0004_0006 => Row::Known(Kind::Frame(FrameTag::Of(Mode::Get, Setting::Order)), 0),
-        0x0004_4006 => Row::Known(Kind::Frame(FrameTag::Of(Mode::Test, Setting::Order)), 4),
-        0x0004_8006 => Row::Known(Kind::Frame(FrameTag::Of(Mode::Set, Setting::Order)), 4),
-        0x0004_0007 => Row::Known(Kind::Frame(FrameTag::Of(Mode::Get, Setting::Alpha)), 0),
-        0x0004_4007 => Row::Known(Kind::Frame(FrameTag::Of(Mode::Test, Setting::Alpha)), 4),
-        0x0004_8007 => Row::Known(Kind::Frame(FrameTag::Of(Mode::Set, Setting::Alpha)), 4),
-        0x0004_0009 => Row::Known(Kind::Frame(FrameTag::Of(Mode::Get, Setting::Offset)), 0),
-        0x0004_4009 => Row::Known(Kind::Frame(FrameTag::Of(Mode::Test, Setting::Offset)), 8),
-        0x0004_8009 => Row::Known(Kind::Frame(FrameTag::Of(Mode::Set, Setting::Offset)), 8),
-        0x0004_0008 => Row::Known(Kind::Frame(FrameTag::Pitch), 0),
-        0x0004_0001 => Row::Known(Kind::Frame(FrameTag::Allocate), 4),
-        0x0004_8001 => Row::Known(Kind::Frame(FrameTag::Release), 0),
-        _ => Row::Unknown,
-    }
-}
-
-// Whether an id stands behind all those of the table.
-pub fn is_beyond(id: u32) -> bool
-    ensures { λ r. ⌜ r ≡ leb tableEnd id ⌝ }
-{
-    id >= 0x0007_0000
 }

@@ -3,3 +3,4 @@ pub mod Kept
 pub mod Lengths
 pub mod Offsets
 pub mod Places
+pub mod Served

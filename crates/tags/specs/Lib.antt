@@ -6,3 +6,4 @@ pub mod Clock
 pub mod Voltage
 pub mod Temperature
 pub mod Outside
+pub mod Named

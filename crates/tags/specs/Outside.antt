@@ -1,4 +1,5 @@
--- A known tag outside the frame buffer group, on the record. Its request has up to two words: of power, clocks, voltage and temperature the first, a, is the id, and the second, x, what a set asks for.
+-- A known tag outside the frame buffer group, on the record. Its request has up to two words: of power, clocks, voltage
+-- and temperature the first, a, is the id, and the second, x, what a set asks for.
 use mathlib.Core.List.{List}
 use Prim.Native.Nat.{ℕ}
 use Rattle.board.specs.Items.{noDevice, noClock, noVoltage}
@@ -6,7 +7,7 @@ use Rattle.board.specs.declared.items.Clock.{Clock}
 use Rattle.board.specs.declared.items.Device.{Device}
 use Rattle.board.specs.declared.items.Voltage.{Voltage}
 use Rattle.board.specs.declared.record.Board.{Board}
-use Rattle.table.specs.declared.kinds.Kind.{Kind}
+use Rattle.table.specs.declared.kinds.OutsideTag.{OutsideTag}
 use Rattle.answers.specs.declared.answer.Answer.{Answer}
 use Rattle.tags.specs.Clock.{clockPlace, clockAfter, clockValue}
 use Rattle.tags.specs.Fact.{factAnswer}
@@ -16,13 +17,12 @@ use Rattle.tags.specs.Temperature.{temperatureValue}
 use Rattle.tags.specs.Voltage.{voltagePlace, voltageAfter, voltageValue}
 
 -- each answers the id and one value of the item that it left
-unfoldable pub outsideAnswer : Kind → (a x : ℕ) → Board → Answer
-outsideAnswer (Kind.Fact t) a x b = factAnswer t (b .facts)
-outsideAnswer (Kind.Power t) a x b = Answer.Pair a (powerValue t (powerAfter t x (item noDevice (b .devices) (devicePlace a))))
-outsideAnswer (Kind.Clock t) a x b = Answer.Pair a (clockValue t (clockAfter t x (item noClock (b .clocks) (clockPlace a))))
-outsideAnswer (Kind.Voltage t) a x b = Answer.Pair a (voltageValue t (voltageAfter t x (item noVoltage (b .voltages) (voltagePlace a))))
-outsideAnswer (Kind.Temperature t) a x b = Answer.Pair a (temperatureValue t a (b .temperature))
-outsideAnswer (Kind.Frame t) a x b = Answer.Nothing
+unfoldable pub outsideAnswer : OutsideTag → (a x : ℕ) → Board → Answer
+outsideAnswer (OutsideTag.Fact t) a x b = factAnswer t (b .facts)
+outsideAnswer (OutsideTag.Power t) a x b = Answer.Pair a (powerValue t (powerAfter t x (item noDevice (b .devices) (devicePlace a))))
+outsideAnswer (OutsideTag.Clock t) a x b = Answer.Pair a (clockValue t (clockAfter t x (item noClock (b .clocks) (clockPlace a))))
+outsideAnswer (OutsideTag.Voltage t) a x b = Answer.Pair a (voltageValue t (voltageAfter t x (item noVoltage (b .voltages) (voltagePlace a))))
+outsideAnswer (OutsideTag.Temperature t) a x b = Answer.Pair a (temperatureValue t a (b .temperature))
 
 abbrev pub withDevices : Board → List Device → Board
 withDevices b xs =
@@ -37,10 +37,9 @@ withVoltages b xs =
     record { facts = b .facts; line = b .line; devices = b .devices; clocks = b .clocks; voltages = xs; temperature = b .temperature; display = b .display }
 
 -- the record that it leaves: only the item of its id can change
-unfoldable pub outsideAfter : Kind → (a x : ℕ) → Board → Board
-outsideAfter (Kind.Fact t) a x b = b
-outsideAfter (Kind.Power t) a x b = withDevices b (change noDevice (powerAfter t x) (b .devices) (devicePlace a))
-outsideAfter (Kind.Clock t) a x b = withClocks b (change noClock (clockAfter t x) (b .clocks) (clockPlace a))
-outsideAfter (Kind.Voltage t) a x b = withVoltages b (change noVoltage (voltageAfter t x) (b .voltages) (voltagePlace a))
-outsideAfter (Kind.Temperature t) a x b = b
-outsideAfter (Kind.Frame t) a x b = b
+unfoldable pub outsideAfter : OutsideTag → (a x : ℕ) → Board → Board
+outsideAfter (OutsideTag.Fact t) a x b = b
+outsideAfter (OutsideTag.Power t) a x b = withDevices b (change noDevice (powerAfter t x) (b .devices) (devicePlace a))
+outsideAfter (OutsideTag.Clock t) a x b = withClocks b (change noClock (clockAfter t x) (b .clocks) (clockPlace a))
+outsideAfter (OutsideTag.Voltage t) a x b = withVoltages b (change noVoltage (voltageAfter t x) (b .voltages) (voltagePlace a))
+outsideAfter (OutsideTag.Temperature t) a x b = b

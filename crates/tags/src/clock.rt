@@ -1,4 +1,6 @@
 // Clocks.
+use crate::place::Place;
+use crate::place::place_of;
 use crate::state::if_present;
 use crate::state::set_state;
 use crate::state::state_of;
@@ -9,6 +11,14 @@ ghost use mathlib.Core.Path.{_≡_};
 ghost use Prim.Native.Nat.{min, max};
 ghost use Rattle.board.specs.Items.{noClock};
 ghost use Rattle.tags.specs.Clock.{clamp, settled, clockAfter, clockValue};
+ghost use Rattle.tags.specs.Place.{Placed};
+
+// The place of the clock of an id, 1 to 14.
+pub fn clock_place(id: u32) -> Place
+    ensures { λ r. ⌜ Placed id 1 14 r ⌝ }
+{
+    place_of(id, 1, 14)
+}
 
 fn lesser(a: u32, b: u32) -> u32
     ensures { λ r. ⌜ r ≡ min a b ⌝ }

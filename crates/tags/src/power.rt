@@ -1,4 +1,6 @@
 // Power devices.
+use crate::place::Place;
+use crate::place::place_of;
 use crate::state::if_present;
 use crate::state::set_state;
 use crate::state::state_of;
@@ -7,7 +9,15 @@ use board::items::State;
 use table::kinds::PowerTag;
 ghost use mathlib.Core.Path.{_≡_};
 ghost use Rattle.board.specs.Items.{noDevice};
+ghost use Rattle.tags.specs.Place.{Placed};
 ghost use Rattle.tags.specs.Power.{powerAfter, powerValue};
+
+// The place of the device of an id, 0 to 10.
+pub fn device_place(id: u32) -> Place
+    ensures { λ r. ⌜ Placed id 0 11 r ⌝ }
+{
+    place_of(id, 0, 11)
+}
 
 // The device of an id that is not listed.
 pub fn absent_device() -> Device

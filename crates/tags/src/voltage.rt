@@ -1,10 +1,20 @@
 // Voltages.
 use crate::clock::clamped;
+use crate::place::Place;
+use crate::place::place_of;
 use board::items::Voltage;
 use table::kinds::VoltageTag;
 ghost use mathlib.Core.Path.{_≡_};
 ghost use Rattle.board.specs.Items.{noVoltage};
+ghost use Rattle.tags.specs.Place.{Placed};
 ghost use Rattle.tags.specs.Voltage.{maxOffset, minOffset, voltageAfter, voltageValue};
+
+// The place of the voltage of an id, 1 to 4.
+pub fn voltage_place(id: u32) -> Place
+    ensures { λ r. ⌜ Placed id 1 4 r ⌝ }
+{
+    place_of(id, 1, 4)
+}
 
 // The voltage of an id that is not listed.
 pub fn absent_voltage() -> Voltage

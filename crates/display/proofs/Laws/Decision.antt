@@ -12,7 +12,7 @@ use Rattle.board.specs.declared.display.Display.{Display}
 use Rattle.board.specs.declared.facts.Span.{Span}
 use Rattle.board.proofs.Laws.Display.{supported-is}
 use Rattle.board.proofs.Laws.Valid.{display-parts}
-use Rattle.display.specs.Decision.{oneBit, placedAt, allocatable, fitsBuffer, accepted, bufferAfter, nowhere, showing, mixed, tested, carriedOut, decidedBy, decided}
+use Rattle.display.specs.Decision.{oneBit, placedAt, allocatable, fitsBuffer, accepted, bufferAfter, nowhere, showing, leftAlone, tested, carriedOut, decidedBy, decided}
 use Rattle.display.specs.declared.decision.Decision.{Decision}
 use Rattle.display.specs.declared.operation.Operation.{Operation}
 use Rattle.display.proofs.Laws.Align.{one-bit-least, up-above}
@@ -103,8 +103,8 @@ module _ (d : Display) (o : Operation) where
   unfolding decided
   decided-by t u = sym (ap₂ (λ (x y : Bool). decidedBy x y d o) t u)
 
-  pub carried-out-by : o .tests ≡ false → {a isAccepted : Bool} → a ≡ accepted d o → a ≡ isAccepted → carriedOut isAccepted d o ≡ decided d o
-  carried-out-by t e b = ap (λ (x : Bool). carriedOut x d o) (sym b ∙ e) ∙ decided-by t refl
+  pub carried-out-by : o .tests ≡ false → o .others ≡ true → {a isAccepted : Bool} → a ≡ accepted d o → a ≡ isAccepted → carriedOut isAccepted d o ≡ decided d o
+  carried-out-by t u e b = ap (λ (x : Bool). carriedOut x d o) (sym b ∙ e) ∙ decided-by t u
 
 -- ---- what holds of each decision that there is holds of the decision
 module _ (d : Display) (o : Operation) (P : Decision → Type 0) (shows : P (showing (d .settings) d)) where
@@ -116,11 +116,12 @@ module _ (d : Display) (o : Operation) (P : Decision → Type 0) (shows : P (sho
   carried-cases h true e = h e
   carried-cases h false e = shows
 
-  module _ (mixes : P (mixed d)) (tests : supported (d .region .size) (o .proposal) ≡ true → P (showing (o .proposal) d)) (carries : accepted d o ≡ true → P (carriedOut true d o)) where
+  module _ (alone : P (leftAlone d)) (tests : supported (d .region .size) (o .proposal) ≡ true → P (showing (o .proposal) d)) (carries : accepted d o ≡ true → P (carriedOut true d o)) where
     by-cases : (t u : Bool) → P (decidedBy t u d o)
-    by-cases true true = mixes
+    by-cases true true = alone
     by-cases true false = tested-cases tests (supported (d .region .size) (o .proposal)) refl
-    by-cases false u = carried-cases carries (accepted d o) refl
+    by-cases false true = carried-cases carries (accepted d o) refl
+    by-cases false false = alone
 
     pub decided-cases : P (decided d o)
     unfolding decided

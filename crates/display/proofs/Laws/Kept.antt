@@ -13,8 +13,7 @@ use Rattle.board.specs.declared.display.Display.{Display}
 use Rattle.board.specs.declared.facts.Span.{Span}
 use Rattle.board.proofs.Laws.Display.{need-least, supported-is}
 use Rattle.board.proofs.Laws.Valid.{display-parts, parts-display, buffer-stands, buffer-valid, no-buffer-valid}
-use Rattle.display.specs.Decision.{placedAt, accepted, bufferAfter, showing, tested, carriedOut, decidedBy, decided}
-use Rattle.display.specs.Operation.{unasked}
+use Rattle.display.specs.Decision.{placedAt, accepted, bufferAfter, tested, carriedOut, decidedBy, decided}
 use Rattle.display.specs.declared.decision.Decision.{Decision}
 use Rattle.display.specs.declared.operation.Operation.{Operation}
 use Rattle.display.proofs.Laws.Decision.{valid-possible, accepted-supported, accepted-possible, accepted-placed, accepted-fits, one-stands, decided-by, decided-cases}
@@ -65,15 +64,3 @@ module _ (d : Display) (o : Operation) where
 
   pub refused-same : accepted d o ≡ false → decided d o .display ≡ d
   refused-same e = decided-cases d o (λ (r : Decision). r .display ≡ d) refl refl (λ s. refl) (λ a. absurd (true≢false (sym a ∙ e)))
-
--- the operation with no tags
-pub unasked-shows : (d : Display) → decided d (unasked (d .settings)) ≡ showing (d .settings) d
-unfolding decided
-unasked-shows d = either (accepted d (unasked (d .settings)))
-  where
-    either : (b : Bool) → carriedOut b d (unasked (d .settings)) ≡ showing (d .settings) d
-    either true = refl
-    either false = refl
-
-pub unasked-same : (d : Display) → decided d (unasked (d .settings)) .display ≡ d
-unasked-same d = ap (λ (r : Decision). r .display) (unasked-shows d)

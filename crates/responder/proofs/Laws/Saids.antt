@@ -33,16 +33,12 @@ pub said-short : (g : Decision) (b : Board) (r : Request) → length (b .facts .
 unfolding saidBy
 said-short g b passed mac l = tt
 said-short g b short mac l = tt
-said-short g b (asks (Kind.Frame t) bytes) mac l = go (g .answered)
+said-short g b (asks (Kind.Group t) bytes) mac l = go (g .answered)
   where
     go : (c : Bool) → ShortSaid (cond c (says (answerBytes (b .facts) (b .line) (groupAnswer g t))) silent)
     go true = answer-fits (b .facts) (b .line) (groupAnswer g t) mac l
     go false = tt
-said-short g b (asks (Kind.Fact t) bytes) mac l = answer-fits (b .facts) (b .line) (outsideAnswer (Kind.Fact t) (first bytes) (second bytes) b) mac l
-said-short g b (asks (Kind.Power t) bytes) mac l = answer-fits (b .facts) (b .line) (outsideAnswer (Kind.Power t) (first bytes) (second bytes) b) mac l
-said-short g b (asks (Kind.Clock t) bytes) mac l = answer-fits (b .facts) (b .line) (outsideAnswer (Kind.Clock t) (first bytes) (second bytes) b) mac l
-said-short g b (asks (Kind.Voltage t) bytes) mac l = answer-fits (b .facts) (b .line) (outsideAnswer (Kind.Voltage t) (first bytes) (second bytes) b) mac l
-said-short g b (asks (Kind.Temperature t) bytes) mac l = answer-fits (b .facts) (b .line) (outsideAnswer (Kind.Temperature t) (first bytes) (second bytes) b) mac l
+said-short g b (asks (Kind.Outside t) bytes) mac l = answer-fits (b .facts) (b .line) (outsideAnswer t (first bytes) (second bytes) b) mac l
 
 abbrev pub Short : List Said → Type 0
 Short [] = Unit {0}

@@ -1,7 +1,7 @@
--- A valid record stays valid under every tag outside the group.
+-- What a tag outside the group keeps: a valid record stays valid; facts, command line and display stay.
 use mathlib.Core.Bool.{Bool, true}
 use mathlib.Core.List.{List}
-use mathlib.Core.Path.{_≡_}
+use mathlib.Core.Path.{_≡_, refl}
 use Prim.Native.Nat.{ℕ}
 use lib.ListN.{getD}
 use Rattle.words.proofs.Laws.All.{all-at, all-set}
@@ -10,7 +10,7 @@ use Rattle.board.proofs.Laws.Valid.{valid-parts, parts-valid, no-device-valid, 
 use Rattle.board.specs.Items.{noDevice, noClock, noVoltage}
 use Rattle.board.specs.Valid.{valid, validDevice, validClock, validVoltage}
 use Rattle.board.specs.declared.record.Board.{Board}
-use Rattle.table.specs.declared.kinds.Kind.{Kind}
+use Rattle.table.specs.declared.kinds.OutsideTag.{OutsideTag}
 use Rattle.tags.proofs.Laws.Items.{power-valid, clock-valid, voltage-valid}
 use Rattle.tags.specs.Clock.{clockPlace, clockAfter}
 use Rattle.tags.specs.Outside.{outsideAfter, withDevices, withClocks, withVoltages}
@@ -25,10 +25,10 @@ all-change : {A : Type 0} (p : A → Bool) (none : A) (f : A → A) (xs : List A
 all-change p none f xs (Place.At i) n k h = all-set p xs i (f (getD xs i none)) (k (getD xs i none) (all-at p none xs i n h)) h
 all-change p none f xs Place.Unlisted n k h = h
 
-pub outside-valid : (k : Kind) (a x : ℕ) (b : Board) → valid b ≡ true → valid (outsideAfter k a x b) ≡ true
+pub outside-valid : (k : OutsideTag) (a x : ℕ) (b : Board) → valid b ≡ true → valid (outsideAfter k a x b) ≡ true
 unfolding outsideAfter
-outside-valid (Kind.Fact t) a x b v = v
-outside-valid (Kind.Power t) a x b v =
+outside-valid (OutsideTag.Fact t) a x b v = v
+outside-valid (OutsideTag.Power t) a x b v =
     let p = valid-parts b v in
     let xs = change noDevice (powerAfter t x) (b .devices) (devicePlace a) in
     parts-valid (withDevices b xs) (record {
@@ -38,7 +38,7 @@ outside-valid (Kind.Power t) a x b v =
       voltages = p .voltages;
       display = p .display;
     })
-outside-valid (Kind.Clock t) a x b v =
+outside-valid (OutsideTag.Clock t) a x b v =
     let p = valid-parts b v in
     let xs = change noClock (clockAfter t x) (b .clocks) (clockPlace a) in
     parts-valid (withClocks b xs) (record {
@@ -48,7 +48,7 @@ outside-valid (Kind.Clock t) a x b v =
       voltages = p .voltages;
       display = p .display;
     })
-outside-valid (Kind.Voltage t) a x b v =
+outside-valid (OutsideTag.Voltage t) a x b v =
     let p = valid-parts b v in
     let xs = change noVoltage (voltageAfter t x) (b .voltages) (voltagePlace a) in
     parts-valid (withVoltages b xs) (record {
@@ -58,5 +58,18 @@ outside-valid (Kind.Voltage t) a x b v =
       voltages = all-change validVoltage noVoltage (voltageAfter t x) (b .voltages) (voltagePlace a) no-voltage-valid (voltage-valid t x) (p .voltages);
       display = p .display;
     })
-outside-valid (Kind.Temperature t) a x b v = v
-outside-valid (Kind.Frame t) a x b v = v
+outside-valid (OutsideTag.Temperature t) a x b v = v
+
+-- two records with the same facts, command line and display
+pub record SameFixed (b b₁ : Board) : Type 0 where
+  pub facts : b₁ .facts ≡ b .facts
+  pub line : b₁ .line ≡ b .line
+  pub display : b₁ .display ≡ b .display
+
+pub outside-fixed : (k : OutsideTag) (a x : ℕ) (b : Board) → SameFixed b (outsideAfter k a x b)
+unfolding outsideAfter
+outside-fixed (OutsideTag.Fact t) a x b = record { facts = refl; line = refl; display = refl }
+outside-fixed (OutsideTag.Power t) a x b = record { facts = refl; line = refl; display = refl }
+outside-fixed (OutsideTag.Clock t) a x b = record { facts = refl; line = refl; display = refl }
+outside-fixed (OutsideTag.Voltage t) a x b = record { facts = refl; line = refl; display = refl }
+outside-fixed (OutsideTag.Temperature t) a x b = record { facts = refl; line = refl; display = refl }

@@ -9,6 +9,7 @@ use Rattle.board.specs.declared.record.Board.{Board}
 use Rattle.table.specs.Table.{Entry, outsideTags}
 use Rattle.table.specs.declared.kinds.FactTag.{FactTag}
 use Rattle.table.specs.declared.kinds.Kind.{Kind}
+use Rattle.table.specs.declared.kinds.OutsideTag.{OutsideTag}
 use Rattle.answers.specs.Answer.{answerBytes}
 use Rattle.tags.specs.Fact.{factAnswer}
 use Rattle.tags.specs.Outside.{outsideAnswer}
@@ -24,11 +25,21 @@ factLength f n FactTag.Arm = n
 factLength f n FactTag.Vc = n
 factLength f n FactTag.Dma = n
 
+abbrev outsideLength : Facts → ℕ → OutsideTag → ℕ
+outsideLength f n (OutsideTag.Fact t) = factLength f n t
+outsideLength f n (OutsideTag.Power t) = n
+outsideLength f n (OutsideTag.Clock t) = n
+outsideLength f n (OutsideTag.Voltage t) = n
+outsideLength f n (OutsideTag.Temperature t) = n
+
 -- the command line answers as many bytes as it has, every other tag what its row says
 abbrev pub lengthOf : Facts → Entry → ℕ
-lengthOf f e = elim (e .kind) [ Kind.Fact t ↦ factLength f (e .answer) t | Kind.Power t ↦ e .answer | Kind.Clock t ↦ e .answer | Kind.Voltage t ↦ e .answer | Kind.Temperature t ↦ e .answer | Kind.Frame t ↦ e .answer ]
+lengthOf f e = elim (e .kind) [ Kind.Outside t ↦ outsideLength f (e .answer) t | Kind.Group t ↦ e .answer ]
+
+abbrev pub answerLength : (a x : ℕ) → Board → Entry → ℕ
+answerLength a x b e = elim (e .kind) [ Kind.Outside t ↦ length (answerBytes (b .facts) (b .line) (outsideAnswer t a x b)) | Kind.Group t ↦ e .answer ]
 
 pub lengths : (a x : ℕ) (b : Board) → length (b .facts .mac) ≡ 6 → b .facts .characters ≤ length (b .line)
-    → map (λ (e : Entry). length (answerBytes (b .facts) (b .line) (outsideAnswer (e .kind) a x b))) outsideTags ≡ map (lengthOf (b .facts)) outsideTags
+    → map (answerLength a x b) outsideTags ≡ map (lengthOf (b .facts)) outsideTags
 unfolding outsideTags answerBytes outsideAnswer factAnswer
 lengths a x b mac line = rw (mac, length-take-le (b .facts .characters) (b .line) line)

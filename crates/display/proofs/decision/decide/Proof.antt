@@ -20,16 +20,26 @@ is-accepted-requires : tie.Need-is-accepted-requires
 is-accepted-requires c κs = search needs
 
 carry-out-requires : tie.Need-carry-out-requires
-carry-out-requires c κs = (c .before .before .before .pre, sym (c .before .is-accepted .ensures) ∙ c .if3 .taken)
+carry-out-requires c κs = (c .before .before .before .before .pre, sym (c .before .is-accepted .ensures) ∙ c .if4 .taken)
 
 returns-3 : tie.Need-returns-3
-returns-3 c = c .carry-out .ensures ∙ carried-out-by _ _ (c .before .before .before .if1 .left) (c .before .before .is-accepted .ensures) (c .before .if3 .taken)
+returns-3 c =
+    let at-others = c .before .before .before in
+    c .carry-out .ensures ∙ carried-out-by _ _ (at-others .before .if1 .left) (at-others .if3 .taken) (c .before .before .is-accepted .ensures) (c .before .if4 .taken)
 
 show-requires : tie.Need-show-requires
-show-requires c κs = valid-possible _ (c .before .before .before .pre)
+show-requires c κs = valid-possible _ (c .before .before .before .before .pre)
 
 returns-4 : tie.Need-returns-4
-returns-4 c = c .show .ensures ∙ carried-out-by _ _ (c .before .before .before .if1 .left) (c .before .before .is-accepted .ensures) (c .before .if3 .left)
+returns-4 c =
+    let at-others = c .before .before .before in
+    c .show .ensures ∙ carried-out-by _ _ (at-others .before .if1 .left) (at-others .if3 .taken) (c .before .before .is-accepted .ensures) (c .before .if4 .left)
+
+leave-requires-2 : tie.Need-leave-requires-2
+leave-requires-2 c κs = search needs
+
+returns-5 : tie.Need-returns-5
+returns-5 c = c .leave2 .ensures ∙ decided-by _ _ (c .before .before .if1 .left) (c .before .if3 .left)
 
 pub decide-spec : {M : Type 1} → statement M
 decide-spec =
@@ -43,4 +53,6 @@ decide-spec =
     carry-out-requires
     returns-3
     show-requires
-    returns-4)
+    returns-4
+    leave-requires-2
+    returns-5)

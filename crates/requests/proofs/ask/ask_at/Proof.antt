@@ -1,6 +1,6 @@
 use mathlib.Core.Path.{refl}
 use native.Mathlib.Omega.{arith}
-use Rattle.requests.proofs.Laws.Asks.{ask-response, ask-unknown, ask-short, ask-fits, ask-known}
+use Rattle.requests.proofs.Laws.Asks.{ask-response, ask-unknown, ask-short, ask-fits, ask-outside, ask-group}
 use borrow.Author.Needs.{needs}
 use Rattle.requests.proofs.ask.ask_at.Statement.{statement}
 use Rattle.requests.proofs.ask.ask_at.Tie as tie
@@ -39,24 +39,28 @@ word-of-requires c κs =
     let at-row = c .before .before .before .before in
     let at-row-of = at-row .before .before in
     let start = at-row-of .before .before .before .before in
-    ask-fits (start .args .msg .now) (start .args .tag) (at-row-of .before .if1 .left) (at-row-of .row-of .ensures) (at-row .row .given .1) (start .pre) (c .before .if2 .left) 0 refl (omega arith)
+    ask-fits (start .args .msg .now) (start .args .tag) (at-row-of .before .if1 .left) (at-row-of .row-of .ensures) (at-row .row .given .1) (start .pre)
+    (c .before .if2 .left) 0 refl (omega arith)
 
 word-of-requires-2 : tie.Need-word-of-requires-2
 word-of-requires-2 c κs =
     let at-row = c .before .before .before .before .before in
     let at-row-of = at-row .before .before in
     let start = at-row-of .before .before .before .before in
-    ask-fits (start .args .msg .now) (start .args .tag) (at-row-of .before .if1 .left) (at-row-of .row-of .ensures) (at-row .row .given .1) (start .pre) (c .before .before .if2 .left) 4 refl (omega arith)
+    ask-fits (start .args .msg .now) (start .args .tag) (at-row-of .before .if1 .left) (at-row-of .row-of .ensures) (at-row .row .given .1) (start .pre)
+    (c .before .before .if2 .left) 4 refl (omega arith)
 
-ask-kind-requires : tie.Need-ask-kind-requires
-ask-kind-requires c κs = search needs
+enum-known-kind : tie.Need-enum-known-kind
+enum-known-kind c = search needs
+
+enum-known-kind-2 : tie.Need-enum-known-kind-2
+enum-known-kind-2 c = search needs
 
 returns-4 : tie.Need-returns-4
-returns-4 c =
-    let at-if2 = c .before .before .before .before in
-    let at-row = at-if2 .before .before .before in
-    let at-row-of = at-row .before .before in
-    ask-known _ _ (at-row-of .before .if1 .left) (at-row-of .row-of .ensures) (at-row .row .given .1) (at-if2 .if2 .left) (c .before .before .word-of .ensures) (c .before .word-of2 .ensures) (c .ask-kind .ensures)
+returns-4 c = search ask-outside
+
+returns-5 : tie.Need-returns-5
+returns-5 c = search ask-group
 
 pub ask-at-spec : {M : Type 1} → statement M
 ask-at-spec =
@@ -72,5 +76,7 @@ ask-at-spec =
     add-value
     word-of-requires
     word-of-requires-2
-    ask-kind-requires
-    returns-4)
+    enum-known-kind
+    enum-known-kind-2
+    returns-4
+    returns-5)

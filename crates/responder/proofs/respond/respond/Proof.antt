@@ -1,43 +1,80 @@
-use mathlib.Core.Path.{ap, _∙_}
-use Rattle.responder.proofs.Laws.Progress.{begun-led, ready}
-use Rattle.responder.specs.Reply.{reply}
+use Rattle.responder.proofs.Laws.Responding.{respond-invalid, respond-refused, respond-walking, respond-code, respond-response, respond-served}
 use borrow.Author.Needs.{needs}
 use Rattle.responder.proofs.respond.respond.Statement.{statement}
 use Rattle.responder.proofs.respond.respond.Tie as tie
 
-begin-requires : tie.Need-begin-requires
-begin-requires c κs = search needs
+is-valid-requires : tie.Need-is-valid-requires
+is-valid-requires c κs = search needs
 
-carry-on-requires : tie.Need-carry-on-requires
-carry-on-requires c κs = (c .before .before .before .before .begin .ensures .0, c .before .if1 .taken)
+refused-requires : tie.Need-refused-requires
+refused-requires c κs = search needs
 
-finish-requires : tie.Need-finish-requires
-finish-requires c κs = ready (c .before .before .before .carry-on .ensures)
+returns : tie.Need-returns
+returns c = search respond-invalid
+
+open-requires : tie.Need-open-requires
+open-requires c κs = search needs
+
+enum-known-opened : tie.Need-enum-known-opened
+enum-known-opened c = search needs
+
+refused-requires-2 : tie.Need-refused-requires-2
+refused-requires-2 c κs = search needs
+
+enum-known-opened-2 : tie.Need-enum-known-opened-2
+enum-known-opened-2 c = search needs
+
+u32-at-requires : tie.Need-u32-at-requires
+u32-at-requires c κs =
+    let at-open = c .before .before .before .before in
+    let at-if = at-open .before .before in
+    respond-code _ _ (at-if .before .is-valid .ensures) (at-if .if1 .left) (at-open .«open» .ensures) (c .before .before .opened2 .given .1)
+
+refused-requires-3 : tie.Need-refused-requires-3
+refused-requires-3 c κs = search needs
 
 same-length : tie.Need-same-length
 same-length c = search needs
 
-returns : tie.Need-returns
-returns c = c .before .before .finish .ensures .serves _ _ (c .before .before .before .before .before .before .carry-on .ensures) ∙ ap (reply _) (c .before .before .before .before .before .before .before .before .before .before .before .begin .ensures .1)
+returns-2 : tie.Need-returns-2
+returns-2 c = search respond-response
 
-finish-requires-2 : tie.Need-finish-requires-2
-finish-requires-2 c κs = ready (begun-led _ _ _ (c .before .before .before .before .begin .ensures .0) (c .before .if1 .left))
+serve-opened-requires : tie.Need-serve-opened-requires
+serve-opened-requires c κs =
+    let at-opened = c .before .before .before .before .before in
+    let at-open = at-opened .before .before in
+    let at-if = at-open .before .before in
+    respond-walking _ _ (at-if .before .is-valid .ensures) (at-if .if1 .left) (at-open .«open» .ensures) (at-opened .opened2 .given .1)
 
 same-length-2 : tie.Need-same-length-2
 same-length-2 c = search needs
 
-returns-2 : tie.Need-returns-2
-returns-2 c = c .before .before .finish2 .ensures .serves _ _ (begun-led _ _ _ (c .before .before .before .before .before .before .before .begin .ensures .0) (c .before .before .before .before .if1 .left)) ∙ ap (reply _) (c .before .before .before .before .before .before .before .begin .ensures .1)
+returns-3 : tie.Need-returns-3
+returns-3 c = search respond-refused
+
+same-length-3 : tie.Need-same-length-3
+same-length-3 c = search needs
+
+returns-4 : tie.Need-returns-4
+returns-4 c = search respond-served
 
 pub respond-spec : {M : Type 1} → statement M
 respond-spec =
     tie.close
     (tie.spec
-    begin-requires
-    carry-on-requires
-    finish-requires
-    same-length
+    is-valid-requires
+    refused-requires
     returns
-    finish-requires-2
+    open-requires
+    enum-known-opened
+    refused-requires-2
+    enum-known-opened-2
+    u32-at-requires
+    refused-requires-3
+    same-length
+    returns-2
+    serve-opened-requires
     same-length-2
-    returns-2)
+    returns-3
+    same-length-3
+    returns-4)

@@ -1,0 +1,13 @@
+-- Describes code: a tag of the group into which its answer is written, unless the group is left alone.
+use mathlib.Core.Bool.{cond}
+use mathlib.Core.List.{List}
+use Prim.Native.Nat.{ℕ}
+use Rattle.board.specs.declared.facts.Facts.{Facts}
+use Rattle.table.specs.declared.kinds.FrameTag.{FrameTag}
+use Rattle.answers.specs.Answer.{answerBytes}
+use Rattle.answers.specs.Reply.{answered}
+use Rattle.display.specs.Decision.{groupAnswer}
+use Rattle.display.specs.declared.decision.Decision.{Decision}
+
+abbrev pub told : Decision → FrameTag → (at size : ℕ) → Facts → (line m : List ℕ) → List ℕ
+told d t at size f line m = cond (d .answered) (answered at size (answerBytes f line (groupAnswer d t)) m) m

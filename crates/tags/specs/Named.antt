@@ -1,0 +1,36 @@
+-- Describes code: the item that a tag names by its id, and what is answered where none has the id.
+use mathlib.Core.Path.{_≡_}
+use Prim.Native.Nat.{ℕ}
+use Rattle.board.specs.Items.{noDevice, noClock, noVoltage}
+use Rattle.table.specs.declared.kinds.OutsideTag.{OutsideTag}
+use Rattle.tags.specs.Clock.{clockPlace, clockValue}
+use Rattle.tags.specs.Place.{Within}
+use Rattle.tags.specs.Power.{devicePlace, powerValue}
+use Rattle.tags.specs.Voltage.{voltagePlace, voltageValue}
+use Rattle.tags.specs.declared.place.Place.{Place}
+
+abbrev pub placeIn : OutsideTag → (id : ℕ) → Place
+placeIn (OutsideTag.Fact t) id = Place.At 0
+placeIn (OutsideTag.Power t) id = devicePlace id
+placeIn (OutsideTag.Clock t) id = clockPlace id
+placeIn (OutsideTag.Voltage t) id = voltagePlace id
+placeIn (OutsideTag.Temperature t) id = Place.At 0
+
+-- how many items a family has
+abbrev pub itemCount : OutsideTag → ℕ
+itemCount (OutsideTag.Fact t) = 1
+itemCount (OutsideTag.Power t) = 11
+itemCount (OutsideTag.Clock t) = 14
+itemCount (OutsideTag.Voltage t) = 4
+itemCount (OutsideTag.Temperature t) = 1
+
+pub record Named (k : OutsideTag) (id : ℕ) (r : Place) : Type 0 where
+  pub is : r ≡ placeIn k id
+  pub within : Within (itemCount k) r
+
+abbrev pub absentValue : OutsideTag → ℕ
+absentValue (OutsideTag.Fact t) = 0
+absentValue (OutsideTag.Power t) = powerValue t noDevice
+absentValue (OutsideTag.Clock t) = clockValue t noClock
+absentValue (OutsideTag.Voltage t) = voltageValue t noVoltage
+absentValue (OutsideTag.Temperature t) = 0
