@@ -19,10 +19,11 @@ use prog.Model.{Model}
 use prog.Routine.{Routine, Env as Routines}
 use prog.Wp.{Heap, Env, Spot, spotOf, Calls, Loops, WpFn, Closed}
 use ghost.Atoms.{Atoms}
+use contract.Lifetimes.{Lfts}
 use contract.Monad.{fact}
 use contract.Running.{Running, GhostRules, givenOf, tables, tablesOf}
-use types.Kit.{Given, Item, Goal, Soaks, Post, Seq, Step, step, runs, lands, frees, nth, ‵, raw, some, later, _⊛_, _$_, _∵_, !, qed, move, keep, drop, use1}
-use types.Kit.{split, split3, group, join, pick, rewrite, fsplit, fsplit3, fjoin3, feqL, feqI, regoal, suffices, frame, await, done}
+use types.Kit.{Given, Item, Goal, Soaks, Post, Seq, Step, step, runs, lands, frees, nth, ‵, raw, some, later, _⊛_, _$_, _∵_, !, qed, move, keep, drop}
+use types.Kit.{use0, use1, split, split3, group, join, pick, rewrite, fsplit, fsplit3, fjoin3, feqL, feqI, regoal, suffices, await, done}
 use types.Run.{Opd, Opds, Walks as Reaches, look, init, store, forget, stop, hop, fld, from, load, addr, of-opd, un, and-then, no-more, assigns, land, returns}
 use types.Run.{enter, alloc1, alloc0, params1, pass1, pass0, free1, free0}
 use types.Part.{Part, agg, whole, sub, look-in}
@@ -42,12 +43,13 @@ use denote.Struct.Steps.{spelt}
 use denote.Struct.Declared.{Declared, fields, shape, row}
 use denote.Struct.Laws as LL
 use denote.Exit.{yes, Last}
+use denote.Triple.Entry.{Args}
 use denote.Triple.Spec.{tripleOf}
 use denote.Triple.Statement.{Contract, Triple}
 use denote.Triple.Call.{calls-at}
-use denote.Triple.Clauses.{Ended, Clauses, closing, lasts}
+use denote.Triple.Clauses.{Ended, Clauses, closing, lasts, atExit}
 use denote.Triple.Table.{entered, cited}
-use denote.Triple.Walked.{says, Stays, AllGo, Walks, stay-ref, gave-slice, walkOf, goes-ref, goes-gave-slice, ends-at, walked, walk-meets}
+use denote.Triple.Walked.{Stays, AllGo, Walks, stay-ref, gave-slice, walkOf, goes-ref, goes-gave-slice, ends-at, walked, walk-meets}
 
 -- ---- plain data of one machine value: a number, or a struct of plain data
 pub record Datum : Type 2 where
@@ -198,9 +200,7 @@ module _ (B : Datum) (S : Declared) (L : LL.Laws S) (φ : B .row .Denot → List
 --     let before = *record;  let result = g(before, bytes);  *record = result.AFTER;  *place = result.POSITION as u32;  result.OUTCOME
 module _ (B : Datum) (S : Declared) (L : LL.Laws S) (after : Member S L B) (position : Member S L (of-width w64)) (outcome : Member S L (of-width w32))
     (φ : B .row .Denot → List ℕ → S .D → List ℕ → Type 0)
-    (fits : (h : B .row .Denot) (ys : List ℕ) (r : S .D) (zs : List ℕ) → φ h ys r zs → position .of r < 2 ^ 32)
-    (ψ : B .row .Denot → List ℕ → ℕ → ℕ → B .row .Denot → List ℕ → Type 0)
-    (so : (h : B .row .Denot) (ys : List ℕ) (r : S .D) (zs : List ℕ) → φ h ys r zs → ψ h ys (outcome .of r) (position .of r) (after .of r) zs) (g : Name) where
+    (fits : (h : B .row .Denot) (ys : List ℕ) (r : S .D) (zs : List ℕ) → φ h ys r zs → position .of r < 2 ^ 32) (g : Name) where
   abbrev code : Fn
   code = record {
     lifetimes = 3;
@@ -234,29 +234,32 @@ module _ (B : Datum) (S : Declared) (L : LL.Laws S) (after : Member S L B) (posi
   abbrev stayed : Stays (lent .signature .params) (lent .kept)
   stayed = (stay-ref (0 ∷ []) tt (slot (B .row)), (gave-slice (1 ∷ []) tt (slot u8), (stay-ref (2 ∷ []) tt (slot u32), tt)))
 
-  abbrev clauses : {M : Type 1} (𝓤 : URA M) → Clauses 𝓤 lent
-  clauses 𝓤 κs a =
-      record { ghost = Unit; requires = λ _. emp 𝓤; ensures = λ _ v e. fact 𝓤 (ψ (a .0 .now) (a .1 .0 .now) v (e .1 .1 .0 .now) (e .0 .now) (e .1 .0 .now)) }
+  -- what the thin function promises follows from what g promised
+  abbrev Follows : {M : Type 1} (𝓤 : URA M) → Clauses 𝓤 lent → Type 1
+  Follows 𝓤 c =
+      (κs : Lfts 3) (a : Args (lent .signature) κs) (i : c κs a .ghost) (r : S .D) (zs : List ℕ) → φ (a .0 .now) (a .1 .0 .now) r zs
+      → ent 𝓤 (emp 𝓤) (c κs a .ensures i (outcome .of r) (atExit lent κs a (after .of r, (zs, (position .of r, tt)))))
 
   module _ {M : Type 1} (𝓤 : URA M) (H : Heap 𝓤) (A : Atoms 𝓤) (W : Given 𝓤 H A) (C : Calls 𝓤 H) (Λ : Loops 𝓤 H) (fm : FmC 𝓤 H (W .laws) C)
-      (known : Triple 𝓤 (C g) (Value B S L φ 𝓤 H A)) where
+      (known : Triple 𝓤 (C g) (Value B S L φ 𝓤 H A)) (c : Clauses 𝓤 lent) (so : Follows 𝓤 c) where
     abbrev Walk : Contract 𝓤
-    Walk = walkOf 𝓤 H A lent stayed (clauses 𝓤)
+    Walk = walkOf 𝓤 H A lent stayed c
 
-    module _ (κ κ′ κ″ : Lft) (q q′ q″ : Share) (x : RefT (B .row .Denot)) (y : RefT (List ℕ)) (z : RefT ℕ) (room : Room u8 (length (y .now))) where
+    module _ (κ κ′ κ″ : Lft) (q q′ q″ : Share) (x : RefT (B .row .Denot)) (y : RefT (List ℕ)) (z : RefT ℕ) (i : c (κ, (κ′, (κ″, tt))) (x, (y, (z, tt))) .ghost)
+        (room : Room u8 (length (y .now))) where
       abbrev bound : Walk .Ghost
-      bound = (((κ, (κ′, (κ″, tt))), (q, (q′, (q″, tt))), tt, (x, (y, (z, tt))), (ptr-vals x, (slice-vals y, (ptr-vals z, tt)))), tt)
+      bound = (((κ, (κ′, (κ″, tt))), (q, (q′, (q″, tt))), tt, (x, (y, (z, tt))), (ptr-vals x, (slice-vals y, (ptr-vals z, tt)))), i)
 
       walk : ent 𝓤 (Walk .pre bound) (WpFn 𝓤 H C Λ code (Walk .args bound) (Walk .post bound))
       walk =
           qed W (((‵ (flft κ q) ⊛ ‵ (flft κ′ q′) ⊛ ‵ (flft κ″ q″) ⊛ ‵ ftrue) ⊛ ‵ (MutRef erased κ (B .row) .own x (ptr-vals x))
-          ⊛ ‵ (MutSlice erased κ′ u8 .own y (slice-vals y)) ⊛ ‵ (MutRef erased κ″ u32 .own z (ptr-vals z)) ⊛ ‵ ftrue) ∷ ‵ ftrue ∷ []) ∵
-          split ! $ split3 ! $ move ! (3 ∷ []) $ split3 ! $ move ! (2 ∷ []) $ split ! $ move ! (6 ∷ []) $ split ! $ keep ! (4 ∷ 6 ∷ 5 ∷ 7 ∷ 2 ∷ 0 ∷ []) $
-          enter ! C Λ code (Walk .args bound) (Walk .post bound) $ alloc1 ! (λ l₀. alloc1 ! (λ l₁. alloc1 ! (λ l₂. alloc1 ! (λ l₃. alloc1 ! (λ l₄.
-          alloc1 ! (λ l₅. alloc1 ! (λ l₆. alloc1 ! (λ l₇. alloc1 ! (λ l₈. alloc0 ! $ params1 ! $ pass1 ! (init ! 14 refl (tt, tt)) $
-          pass1 ! (init ! 12 refl (tt, (tt, (record { fits = room .0 }, tt)))) $ pass1 ! (init ! 10 refl (tt, tt)) $ pass0 ! $
+          ⊛ ‵ (MutSlice erased κ′ u8 .own y (slice-vals y)) ⊛ ‵ (MutRef erased κ″ u32 .own z (ptr-vals z)) ⊛ ‵ ftrue)
+          ∷ raw (c (bound .0 .0) (bound .0 .3) .requires i) ∷ []) ∵ split ! $ split3 ! $ move ! (3 ∷ []) $ split3 ! $ move ! (2 ∷ []) $ split ! $
+          move ! (6 ∷ []) $ split ! $ keep ! (4 ∷ 6 ∷ 5 ∷ 7 ∷ 2 ∷ 0 ∷ []) $ enter ! C Λ code (Walk .args bound) (Walk .post bound) $ alloc1 ! (λ l₀.
+          alloc1 ! (λ l₁. alloc1 ! (λ l₂. alloc1 ! (λ l₃. alloc1 ! (λ l₄. alloc1 ! (λ l₅. alloc1 ! (λ l₆. alloc1 ! (λ l₇. alloc1 ! (λ l₈. alloc0 ! $
+          params1 ! $ pass1 ! (init ! 14 refl (tt, tt)) $ pass1 ! (init ! 12 refl (tt, (tt, (record { fits = room .0 }, tt)))) $ pass1 ! (init ! 10 refl (tt, tt)) $
           -- [_8; …; _0; …; the record's reference; its token; the bytes' reference; its token; the place's; its token]
-          move ! (18 ∷ 19 ∷ []) $ opens-datum ! tt B x (λ is.
+          pass0 ! $ move ! (18 ∷ 19 ∷ []) $ opens-datum ! tt B x (λ is.
           -- [the record; its open borrow; _8; …; _0; …; the bytes' reference; its token; the place's; its token]
           assigns ! (of-opd ! (load ! (from ! (hop ! (look ! 16 refl) (stop !))) (look ! 0 refl))) (from ! (stop !)) (init ! 10 refl
           (B .typed 𝓤 H A W (x .now) _ is)) $
@@ -280,21 +283,22 @@ module _ (B : Datum) (S : Declared) (L : LL.Laws S) (after : Member S L B) (posi
           move ! (22 ∷ 23 ∷ 20 ∷ 21 ∷ 18 ∷ 19 ∷ 16 ∷ 17 ∷ 14 ∷ 15 ∷ 12 ∷ 13 ∷ 10 ∷ 11 ∷ 8 ∷ 9 ∷ 6 ∷ 7 ∷ []) $
           frees-held ! $ frees-held ! $ frees-held ! $ frees-held ! $ frees-held ! $ frees-held ! $ frees-held ! $ frees-held ! $ frees-held ! $ free0 ! $
           -- [the place's reference; its token; the record's reference; its token; the last bytes; their token]
-          suffices ! _ (ends-at 𝓤 H A lent stayed (clauses 𝓤) W bound (vint w32 (outcome .of r)) (outcome .of r)
-          (after .of r, (zs, (position .of r, tt))) (tt, (l, (tt, tt)))) $ says ! (so _ _ _ _ p) $
+          suffices ! _ (ends-at 𝓤 H A lent stayed c W bound (vint w32 (outcome .of r)) (outcome .of r) (after .of r, (zs, (position .of r, tt)))
+          (tt, (l, (tt, tt)))) $ use0 W (raw (c (bound .0 .0) (bound .0 .3) .ensures i (outcome .of r)
+          (atExit lent (bound .0 .0) (bound .0 .3) (after .of r, (zs, (position .of r, tt)))))) (so (bound .0 .0) (bound .0 .3) i r zs p) $
           owned ! u32 (Is u32) (uint-makes 𝓤 H A W w32) (outcome .of r) _ (outcome .is r _ came) $ nothing ! $ nothing ! $
-          move ! (6 ∷ 8 ∷ 4 ∷ 0 ∷ []) $ group ! 4 $ frame ! $ move ! (3 ∷ 4 ∷ 2 ∷ 0 ∷ []) $ group ! 4 $ done !))))))))))))
+          move ! (6 ∷ 8 ∷ 4 ∷ 0 ∷ []) $ group ! 4 $ move ! (0 ∷ 2 ∷ []) $ join ! $ move ! (4 ∷ 5 ∷ 3 ∷ 1 ∷ []) $ group ! 4 $ join ! $ done !))))))))))))
 
   -- the thin function k keeps its promise where g keeps its own
   pub thin-keeps : {M : Type 1} (𝓤 : URA M) (H : Heap 𝓤) (𝓜 : Model 𝓤 H) (𝓖 : GhostRules 𝓤 H) (𝓡 : Running 𝓤 H 𝓜) (γ : Routines) (k : Name)
       → Closed 𝓤 H (tables 𝓤 H 𝓜 𝓡 γ .C) (tables 𝓤 H 𝓜 𝓡 γ .Λ) k code → (routine : Routine) → γ g ≡ routine
-      → Triple 𝓤 (𝓡 .run routine) (Value B S L φ 𝓤 H (𝓖 .A))
-      → Triple 𝓤 (tables 𝓤 H 𝓜 𝓡 γ .C k) (tripleOf 𝓤 H (𝓖 .A) (lent .signature) (closing 𝓤 H (𝓖 .A) lent (clauses 𝓤)))
-  thin-keeps 𝓤 H 𝓜 𝓖 𝓡 γ k closed routine is known =
+      → Triple 𝓤 (𝓡 .run routine) (Value B S L φ 𝓤 H (𝓖 .A)) → (c : Clauses 𝓤 lent) → Follows 𝓤 c
+      → Triple 𝓤 (tables 𝓤 H 𝓜 𝓡 γ .C k) (tripleOf 𝓤 H (𝓖 .A) (lent .signature) (closing 𝓤 H (𝓖 .A) lent c))
+  thin-keeps 𝓤 H 𝓜 𝓖 𝓡 γ k closed routine is known c so =
       let W = givenOf 𝓤 H 𝓜 𝓖 in
       caller-keeps 𝓤 H 𝓜 𝓖 𝓡 γ k code closed g routine is (Value B S L φ 𝓤 H (𝓖 .A)) known lent stayed
       (goes-ref 𝓤 H (𝓖 .A) W 3 0 tt (slot (B .row)), (goes-gave-slice 𝓤 H (𝓖 .A) W 3 1 tt (slot u8), (goes-ref 𝓤 H (𝓖 .A) W 3 2 tt (slot u32), tt)))
-      (clauses 𝓤) (λ C Λ fm known. walked 𝓤 H (𝓖 .A) lent stayed (clauses 𝓤) (WpFn 𝓤 H C Λ code) (λ κs. (ptr-vals, (slice-vals, (ptr-vals, tt))))
+      c (λ C Λ fm known. walked 𝓤 H (𝓖 .A) lent stayed c (WpFn 𝓤 H C Λ code) (λ κs. (ptr-vals, (slice-vals, (ptr-vals, tt))))
       (λ κs. (mut-tells (named 0) (κs .0) (B .row), (mut-slice-tells (named 1) (κs .1 .0) u8, (mut-tells (named 2) (κs .1 .1 .0) u32, tt))))
-      (λ κs qs bounds a _ are. walk 𝓤 H (𝓖 .A) W C Λ fm known (κs .0) (κs .1 .0) (κs .1 .1 .0) (qs .0) (qs .1 .0) (qs .1 .1 .0)
-      (a .0) (a .1 .0) (a .1 .1 .0) (are .1 .0 .0 .1)))
+      (λ κs qs bounds a i are. walk 𝓤 H (𝓖 .A) W C Λ fm known c so (κs .0) (κs .1 .0) (κs .1 .1 .0) (qs .0) (qs .1 .0) (qs .1 .1 .0)
+      (a .0) (a .1 .0) (a .1 .1 .0) i (are .1 .0 .0 .1)))

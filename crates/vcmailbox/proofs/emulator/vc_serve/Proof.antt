@@ -4,6 +4,8 @@ use mathlib.Core.Path.{_≡_, refl, ap}
 use Prim.Native.Nat.{ℕ, _<_, _^_}
 use native.Mathlib.Omega.{arith}
 use mir.Syntax.{w32, w64}
+use base.Logic.{emp}
+use contract.Monad.{factI}
 use denote.Struct.Laws as LL
 use Rattle.message.specs.Builder.{Call, leaves}
 use Rattle.board.proofs.record.Board as T
@@ -17,6 +19,7 @@ use Rattle.responder.proofs.respond.respond.Symbol as callee-def
 use Rattle.responder.specs.Reply.{reply}
 use Rattle.responder.specs.declared.respond.Served.{Served}
 use Rattle.thin.proofs.Thin.{Datum, Member, of-struct, of-width, thin-keeps}
+use Rattle.vcmailbox.proofs.emulator.vc_serve as f
 use Rattle.vcmailbox.proofs.emulator.vc_serve.Code as code
 use Rattle.vcmailbox.proofs.emulator.vc_serve.Key.{name}
 use Rattle.vcmailbox.proofs.emulator.vc_serve.Statement.{statement}
@@ -40,6 +43,6 @@ fits h ys r zs e = let k = reply-inside h ys in let is = ap (λ (x : Call Served
 pub vc-serve-spec : {M : Type 1} → statement M
 unfolding code.routine
 vc-serve-spec 𝓤 H 𝓜 𝓖 𝓡 =
-    thin-keeps record-type S.the-type S′.the-laws board place outcome (λ h ys r zs. leaves zs r ≡ reply h ys) fits
-    (λ h ys v n g zs. leaves zs (record { outcome = v; place = n; board = g }) ≡ reply h ys) (λ h ys r zs e. e) callee-def.name
+    thin-keeps record-type S.the-type S′.the-laws board place outcome (λ h ys r zs. leaves zs r ≡ reply h ys) fits callee-def.name
     𝓤 H 𝓜 𝓖 𝓡 code.env name (code.unfolded 𝓤 H 𝓜 𝓡) callee-def.routine code.calls-responder·respond·respond (callee-thm.met 𝓤 H 𝓜 𝓖 𝓡)
+    (f.clauses 𝓤 H (𝓖 .A) (𝓜 .mem) (𝓡 .run)) (λ κs a _ r zs e. factI 𝓤 _ (emp 𝓤) e)
