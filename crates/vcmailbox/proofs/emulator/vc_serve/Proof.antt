@@ -1,31 +1,26 @@
 -- `vc_serve` meets its contract: the law of a thin function, at `respond`.
-use mathlib.Core.List.{List}
-use mathlib.Core.Path.{_≡_, refl, ap}
-use Prim.Native.Nat.{ℕ, _<_, _^_}
-use native.Mathlib.Omega.{arith}
+use mathlib.Core.Path.{_≡_, refl}
 use mir.Syntax.{w32, w64}
 use base.Logic.{emp}
 use contract.Monad.{factI}
 use denote.Struct.Laws as LL
-use Rattle.message.specs.Builder.{Call, leaves}
+use Rattle.message.specs.Builder.{leaves}
 use Rattle.board.proofs.record.Board as T
 use Rattle.board.proofs.record.Board.Laws as T′
-use Rattle.board.specs.declared.record.Board.{Board}
-use Rattle.responder.proofs.Laws.Place.{reply-inside}
 use Rattle.responder.proofs.respond.Served as S
 use Rattle.responder.proofs.respond.Served.Laws as S′
 use Rattle.responder.proofs.respond.respond.Met as callee-thm
 use Rattle.responder.proofs.respond.respond.Symbol as callee-def
 use Rattle.responder.specs.Reply.{reply}
-use Rattle.responder.specs.declared.respond.Served.{Served}
 use Rattle.thin.proofs.Thin.{Datum, Member, of-struct, of-width, thin-keeps}
+use Rattle.vcmailbox.proofs.Fits.{serve-place}
 use Rattle.vcmailbox.proofs.emulator.vc_serve as f
 use Rattle.vcmailbox.proofs.emulator.vc_serve.Code as code
 use Rattle.vcmailbox.proofs.emulator.vc_serve.Key.{name}
 use Rattle.vcmailbox.proofs.emulator.vc_serve.Statement.{statement}
 
-abbrev record-type : Datum
-record-type = of-struct T.the-type T′.the-laws T′.the-plain
+abbrev B : Datum
+B = of-struct T.the-type T′.the-laws T′.the-plain
 
 abbrev outcome : Member S.the-type S′.the-laws (of-width w32)
 outcome = record { of = λ r. r .outcome; number = 0; offset = 0; lies = refl; value = λ r. refl; is = λ r v is. LL.owed S.the-type S′.the-laws r _ is .0 }
@@ -33,16 +28,12 @@ outcome = record { of = λ r. r .outcome; number = 0; offset = 0; lies = refl; v
 abbrev place : Member S.the-type S′.the-laws (of-width w64)
 place = record { of = λ r. r .place; number = 1; offset = 8; lies = refl; value = λ r. refl; is = λ r v is. LL.owed S.the-type S′.the-laws r _ is .1 .0 }
 
-abbrev board : Member S.the-type S′.the-laws record-type
+abbrev board : Member S.the-type S′.the-laws B
 board = record { of = λ r. r .board; number = 2; offset = 16; lies = refl; value = λ r. refl; is = λ r v is. LL.owed S.the-type S′.the-laws r _ is .1 .1 .0 }
-
--- no place of a reply is above the largest message
-fits : (h : Board) (ys : List ℕ) (r : Served) (zs : List ℕ) → leaves zs r ≡ reply h ys → r .place < 2 ^ 32
-fits h ys r zs e = let k = reply-inside h ys in let is = ap (λ (x : Call Served). x .answer .place) e in omega arith
 
 pub vc-serve-spec : {M : Type 1} → statement M
 unfolding code.routine
 vc-serve-spec 𝓤 H 𝓜 𝓖 𝓡 =
-    thin-keeps record-type S.the-type S′.the-laws board place outcome (λ h ys r zs. leaves zs r ≡ reply h ys) fits callee-def.name
+    thin-keeps B S.the-type S′.the-laws board place outcome (λ h ys r zs. leaves zs r ≡ reply h ys) serve-place callee-def.name
     𝓤 H 𝓜 𝓖 𝓡 code.env name (code.unfolded 𝓤 H 𝓜 𝓡) callee-def.routine code.calls-responder·respond·respond (callee-thm.met 𝓤 H 𝓜 𝓖 𝓡)
     (f.clauses 𝓤 H (𝓖 .A) (𝓜 .mem) (𝓡 .run)) (λ κs a _ r zs e. factI 𝓤 _ (emp 𝓤) e)
