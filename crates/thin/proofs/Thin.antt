@@ -94,29 +94,29 @@ pub record Member (S : Declared) (L : LL.Laws S) (D : Datum) : Type 2 where
 
 -- what a reference points to, and what is left of its borrow while that is open
 module _ {M : Type 1} {𝓤 : URA M} (D : Datum) (x : RefT (D .row .Denot)) where
-  abbrev pub At : Val → Item 𝓤
-  At v = ‵ (fat fullShare (D .ty) (x .ptr .0) (x .ptr .1) v)
+  abbrev pub Cell : Val → Item 𝓤
+  Cell v = ‵ (fat fullShare (D .ty) (x .ptr .0) (x .ptr .1) v)
 
-  abbrev pub Open : Lft → Share → Item 𝓤
-  Open κ q =
+  abbrev pub Held-open : Lft → Share → Item 𝓤
+  Held-open κ q =
       ‵ (fobor κ q (Borrowed (mem (D .row)) (x .ptr .0) (x .ptr .1) (x .name))) ⊛ ‵ (fobs (x .name) (D .row .coded .code (x .now)))
       ⊛ ‵ (fauth (x .name) (D .row .coded .code (x .now)))
 
 module _ {M : Type 1} {𝓤 : URA M} {H : Heap 𝓤} {A : Atoms 𝓤} {K : Type 0} {W : Given 𝓤 H A} {Γ : List (Item 𝓤)} where
   -- a `&mut` with its token is opened, and closed at another value, which lies there by then
   module _ {G : Goal 𝓤 H} (t : K) (z : Soaks G) (D : Datum) {κ : Lft} {q : Share} (x : RefT (D .row .Denot)) where
-    pub opens-datum : {vs : List Val} → (Is (D .row) (x .now) (D .val (x .now) ∷ []) → Seq K W (At D x (D .val (x .now)) ∷ Open D x κ q ∷ Γ) G)
+    pub opens-datum : {vs : List Val} → (Is (D .row) (x .now) (D .val (x .now) ∷ []) → Seq K W (Cell D x (D .val (x .now)) ∷ Held-open D x κ q ∷ Γ) G)
         → Seq K W (‵ (MutRef erased κ (D .row) .own x vs) ∷ ‵ (flft κ q) ∷ Γ) G
     opens-datum k =
         fsplit3 t $ drop t $ opens t z (D .row) (x .ptr .0) (x .ptr .1) (λ us.
         spelt t (D .row) (Is (D .row)) (shows 𝓤 H A (D .row)) (λ y. D .val y ∷ []) (D .tells) fullShare (x .now) us (x .ptr .0) (x .ptr .1) $
         rewrite t 0 (λ (τs : List Ty). ‵ (cellAt fullShare τs (D .val (x .now) ∷ []) (x .ptr .0) (x .ptr .1))) (D .one) refl $
-        use1 W (At D x (D .val (x .now))) (W .laws .raw-at fullShare (D .ty) (x .ptr .0) (x .ptr .1) (D .val (x .now))) $
+        use1 W (Cell D x (D .val (x .now))) (W .laws .raw-at fullShare (D .ty) (x .ptr .0) (x .ptr .1) (D .val (x .now))) $
         move t (2 ∷ 3 ∷ 4 ∷ []) $ group t 3 $ move t (2 ∷ []) $
         facts t (D .row) (Is (D .row)) (shows 𝓤 H A (D .row)) (x .now) (D .val (x .now) ∷ []) (λ is. move t (1 ∷ 0 ∷ []) $ k is))
 
     pub closes-datum : (y : D .row .Denot) (v : Val) → Is (D .row) y (v ∷ [])
-        → Step K W (‵ (MutRef erased κ (D .row) .own (at-last x y) (ptr-vals x)) ∷ ‵ (flft κ q) ∷ Γ) G (At D x v ∷ Open D x κ q ∷ Γ) G
+        → Step K W (‵ (MutRef erased κ (D .row) .own (at-last x y) (ptr-vals x)) ∷ ‵ (flft κ q) ∷ Γ) G (Cell D x v ∷ Held-open D x κ q ∷ Γ) G
     closes-datum y v is = step (λ s.
         use1 W (‵ (cellAt fullShare (D .ty ∷ []) (v ∷ []) (x .ptr .0) (x .ptr .1))) (W .laws .at-raw fullShare (D .ty) (x .ptr .0) (x .ptr .1) v) $
         rewrite t 0 (λ (τs : List Ty). ‵ (cellAt fullShare τs (v ∷ []) (x .ptr .0) (x .ptr .1))) (sym (D .one)) refl $ move t (1 ∷ []) $ split3 t $
@@ -174,21 +174,21 @@ module _ (B : Datum) (S : Declared) (L : LL.Laws S) (φ : B .row .Denot → List
         record { ghost = Unit; requires = λ _. emp 𝓤; ensures = λ _ r e. fact 𝓤 (φ (a .0) (a .1 .0 .now) r (e .1 .0 .now)) }))
 
     -- what the contract binds outside: the record h, and the bytes y, which are lent for κ
-    abbrev pub passed : Lft → Share → B .row .Denot → RefT (List ℕ) → Val → Value .Ghost
-    passed κ q h y s = (((κ, tt), (q, tt), tt, (h, (y, tt)), (B .val h ∷ [], (s ∷ [], tt))), tt)
+    abbrev pub handed : Lft → Share → B .row .Denot → RefT (List ℕ) → Val → Value .Ghost
+    handed κ q h y s = (((κ, tt), (q, tt), tt, (h, (y, tt)), (B .val h ∷ [], (s ∷ [], tt))), tt)
 
   module _ {M : Type 1} {𝓤 : URA M} {H : Heap 𝓤} {A : Atoms 𝓤} {K : Type 0} {W : Given 𝓤 H A} {Γ : List (Item 𝓤)} {E : Env 𝓤 H} {C : Calls 𝓤 H} where
     -- a call, with the bytes' token and reference at the head: once it has returned the struct r, the bytes are zs
     pub calls-value : K → FmC 𝓤 H (W .laws) C → {g : Name} → Triple 𝓤 (C g) (Value 𝓤 H A) → {κ : Lft} {q : Share} (h : B .row .Denot) (y : RefT (List ℕ))
         → (s : Val) {Λ : Loops 𝓤 H} {end : Post 𝓤 H} {xs : List Operand} {to : Place} {rest : Body}
-        → Is (B .row) h (B .val h ∷ []) → Opds K W (raw (Value 𝓤 H A .pre (passed 𝓤 H A κ q h y s)) ∷ Γ) E xs (B .val h ∷ s ∷ [])
+        → Is (B .row) h (B .val h ∷ []) → Opds K W (raw (Value 𝓤 H A .pre (handed 𝓤 H A κ q h y s)) ∷ Γ) E xs (B .val h ∷ s ∷ [])
         → ((r : S .D) (zs : List ℕ) → φ h (y .now) r zs → length zs ≡ length (y .now) → Is (row S) r (LL.val S L r ∷ [])
         → Seq K W (‵ (finally u8 (y .name) zs) ∷ ‵ (flft κ q) ∷ Γ) (lands C Λ E to (LL.val S L r) rest end))
         → Seq K W (‵ (flft κ q) ∷ ‵ (MutSlice erased κ u8 .own y (s ∷ [])) ∷ Γ) (runs C Λ E (seq (call g xs to) rest) end)
     calls-value t fm known {κ} {q} h y s {Λ} {end} {xs} {to} {rest} is reads k =
         owned t (B .row) (Is (B .row)) (B .makes 𝓤 H A W) h (B .val h ∷ []) is $ nothing t $ nothing t $ nothing t $
         move t (4 ∷ 0 ∷ []) $ join t $ move t (3 ∷ 4 ∷ 1 ∷ []) $ group t 3 $ move t (1 ∷ 0 ∷ []) $ join t $ join t $
-        use1 W (raw (Value 𝓤 H A .pre (passed 𝓤 H A κ q h y s))) (id⊢ 𝓤 _) $ calls-at t fm (Value 𝓤 H A) known (passed 𝓤 H A κ q h y s) reads (λ w.
+        use1 W (raw (Value 𝓤 H A .pre (handed 𝓤 H A κ q h y s))) (id⊢ 𝓤 _) $ calls-at t fm (Value 𝓤 H A) known (handed 𝓤 H A κ q h y s) reads (λ w.
         use1 W (later (some (λ (r : S .D). ((‵ (flft κ q) ⊛ ‵ ftrue) ⊛ ‵ (row S .own r (w ∷ []))) ⊛
         some (λ (zs : Last (B .row .exit yes) h × (List ℕ × Unit)). ‵ (lasts by-value (κ, tt) (h, (y, tt)) zs) ⊛ raw (fact 𝓤 (φ h (y .now) r (zs .1 .0)))))))
         (id⊢ 𝓤 _) $ await t tt $ pick t (λ r. split t $ move t (1 ∷ []) $ pick t (λ zs. split t $ move t (1 ∷ []) $ heard t (φ h (y .now) r (zs .1 .0)) (λ p.
@@ -199,8 +199,8 @@ module _ (B : Datum) (S : Declared) (L : LL.Laws S) (φ : B .row .Denot → List
         k r (zs .1 .0) p l (subst (Is (row S) r) same came)))))))
 
 -- ---- the law, of this code over the function g, which promises φ
---     let before = *record;  let result = g(before, bytes);  *record = result.AFTER;  *place = result.POSITION as u32;  result.OUTCOME
-module _ (B : Datum) (S : Declared) (L : LL.Laws S) (after : Member S L B) (position : Member S L (of-width w64)) (outcome : Member S L (of-width w32))
+--     let before = *record;  let result = g(before, bytes);  *record = result.RETURNED;  *place = result.POSITION as u32;  result.OUTCOME
+module _ (B : Datum) (S : Declared) (L : LL.Laws S) (returned : Member S L B) (position : Member S L (of-width w64)) (outcome : Member S L (of-width w32))
     (φ : B .row .Denot → List ℕ → S .D → List ℕ → Type 0)
     (fits : (h : B .row .Denot) (ys : List ℕ) (r : S .D) (zs : List ℕ) → φ h ys r zs → Fits w32 (position .of r)) (g : Name) where
   abbrev code : Fn
@@ -216,14 +216,14 @@ module _ (B : Datum) (S : Declared) (L : LL.Laws S) (after : Member S L B) (posi
         (seq (assign (place 6 []) (addrOf (place 2 (field 0 ∷ deref (tyInt w8) ∷ []))))
         (seq (assign (place 7 []) (aggregate (copy (place 6 []) ∷ copy (place 2 (field 1 ∷ [])) ∷ [])))
         (seq (call g (copy (place 4 []) ∷ copy (place 7 []) ∷ []) (place 5 []))
-        (seq (assign (place 1 (deref (B .ty) ∷ [])) (rvOpd (copy (place 5 (field (after .number) ∷ [])))))
+        (seq (assign (place 1 (deref (B .ty) ∷ [])) (rvOpd (copy (place 5 (field (returned .number) ∷ [])))))
         (seq (assign (place 8 []) (op1 (cast unsigned unsigned w32) (copy (place 5 (field (position .number) ∷ [])))))
         (seq (assign (place 3 (deref (tyInt w32) ∷ [])) (rvOpd (copy (place 8 []))))
         (seq (assign (place 0 []) (rvOpd (copy (place 5 (field (outcome .number) ∷ []))))) return)))))));
   }
 
-  abbrev lent : Ended
-  lent = record {
+  abbrev on-loan : Ended
+  on-loan = record {
     signature = record {
       lifetimes = 3;
       outlives = [];
@@ -233,31 +233,31 @@ module _ (B : Datum) (S : Declared) (L : LL.Laws S) (after : Member S L B) (posi
     kept = (yes, (yes, (yes, tt)));
   }
 
-  abbrev stayed : Stays (lent .signature .params) (lent .kept)
+  abbrev stayed : Stays (on-loan .signature .params) (on-loan .kept)
   stayed = (stay-ref (0 ∷ []) tt (slot (B .row)), (gave-slice (1 ∷ []) tt (slot u8), (stay-ref (2 ∷ []) tt (slot u32), tt)))
 
   -- what the thin function promises follows from what g promised
-  abbrev Follows : {M : Type 1} (𝓤 : URA M) → Clauses 𝓤 lent → Type 1
-  Follows 𝓤 c =
-      (κs : Lfts 3) (a : Args (lent .signature) κs) (i : c κs a .ghost) (r : S .D) (zs : List ℕ) → φ (a .0 .now) (a .1 .0 .now) r zs
-      → ent 𝓤 (emp 𝓤) (c κs a .ensures i (outcome .of r) (atExit lent κs a (after .of r, (zs, (position .of r, tt)))))
+  abbrev Promised : {M : Type 1} (𝓤 : URA M) → Clauses 𝓤 on-loan → Type 1
+  Promised 𝓤 c =
+      (κs : Lfts 3) (a : Args (on-loan .signature) κs) (i : c κs a .ghost) (r : S .D) (zs : List ℕ) → φ (a .0 .now) (a .1 .0 .now) r zs
+      → ent 𝓤 (emp 𝓤) (c κs a .ensures i (outcome .of r) (atExit on-loan κs a (returned .of r, (zs, (position .of r, tt)))))
 
   module _ {M : Type 1} (𝓤 : URA M) (H : Heap 𝓤) (A : Atoms 𝓤) (W : Given 𝓤 H A) (C : Calls 𝓤 H) (Λ : Loops 𝓤 H) (fm : FmC 𝓤 H (W .laws) C)
-      (known : Triple 𝓤 (C g) (Value B S L φ 𝓤 H A)) (c : Clauses 𝓤 lent) (so : Follows 𝓤 c) where
-    abbrev Walk : Contract 𝓤
-    Walk = walkOf 𝓤 H A lent stayed c
+      (known : Triple 𝓤 (C g) (Value B S L φ 𝓤 H A)) (c : Clauses 𝓤 on-loan) (so : Promised 𝓤 c) where
+    abbrev Way : Contract 𝓤
+    Way = walkOf 𝓤 H A on-loan stayed c
 
     module _ (κ κ′ κ″ : Lft) (q q′ q″ : Share) (x : RefT (B .row .Denot)) (y : RefT (List ℕ)) (z : RefT ℕ) (i : c (κ, (κ′, (κ″, tt))) (x, (y, (z, tt))) .ghost)
         (room : Room u8 (length (y .now))) where
-      abbrev bound : Walk .Ghost
+      abbrev bound : Way .Ghost
       bound = (((κ, (κ′, (κ″, tt))), (q, (q′, (q″, tt))), tt, (x, (y, (z, tt))), (ptr-vals x, (slice-vals y, (ptr-vals z, tt)))), i)
 
-      walk : ent 𝓤 (Walk .pre bound) (WpFn 𝓤 H C Λ code (Walk .args bound) (Walk .post bound))
+      walk : ent 𝓤 (Way .pre bound) (WpFn 𝓤 H C Λ code (Way .args bound) (Way .post bound))
       walk =
           qed W (((‵ (flft κ q) ⊛ ‵ (flft κ′ q′) ⊛ ‵ (flft κ″ q″) ⊛ ‵ ftrue) ⊛ ‵ (MutRef erased κ (B .row) .own x (ptr-vals x))
           ⊛ ‵ (MutSlice erased κ′ u8 .own y (slice-vals y)) ⊛ ‵ (MutRef erased κ″ u32 .own z (ptr-vals z)) ⊛ ‵ ftrue)
           ∷ raw (c (bound .0 .0) (bound .0 .3) .requires i) ∷ []) ∵ split ! $ split3 ! $ move ! (3 ∷ []) $ split3 ! $ move ! (2 ∷ []) $ split ! $
-          move ! (6 ∷ []) $ split ! $ keep ! (4 ∷ 6 ∷ 5 ∷ 7 ∷ 2 ∷ 0 ∷ []) $ enter ! C Λ code (Walk .args bound) (Walk .post bound) $ alloc1 ! (λ l₀.
+          move ! (6 ∷ []) $ split ! $ keep ! (4 ∷ 6 ∷ 5 ∷ 7 ∷ 2 ∷ 0 ∷ []) $ enter ! C Λ code (Way .args bound) (Way .post bound) $ alloc1 ! (λ l₀.
           alloc1 ! (λ l₁. alloc1 ! (λ l₂. alloc1 ! (λ l₃. alloc1 ! (λ l₄. alloc1 ! (λ l₅. alloc1 ! (λ l₆. alloc1 ! (λ l₇. alloc1 ! (λ l₈. alloc0 ! $
           params1 ! $ pass1 ! (init ! 14 refl (tt, tt)) $ pass1 ! (init ! 12 refl (tt, (tt, (record { fits = room .0 }, tt)))) $
           -- [_8; …; _0; …; the record's reference; its token; the bytes' reference; its token; the place's; its token]
@@ -272,9 +272,9 @@ module _ (B : Datum) (S : Declared) (L : LL.Laws S) (after : Member S L B) (posi
           (and-then ! (load ! (from ! (stop !)) (look ! 11 refl)) (and-then ! (load ! (from ! (stop !)) (look ! 5 refl)) (no-more !))) (λ r zs p l came.
           -- [the last bytes; their token; the record; its open borrow; _8; …; _0; …; the place's reference; its token]
           land ! (from ! (stop !)) (init ! 10 refl (LL.lawful S L 𝓤 H A W .typed r _ came .0)) $
-          assigns ! (of-opd ! (member ! after 10 r refl refl)) (from ! (hop ! (look ! 18 refl) (stop !))) (store ! 2 refl
-          (B .typed 𝓤 H A W (after .of r) _ (after .is r _ came))) $
-          move ! (2 ∷ 3 ∷ []) $ closes-datum ! tt B x (after .of r) _ (after .is r _ came) $ move ! (22 ∷ 23 ∷ []) $ opens-datum ! tt (of-width w32) z (λ _.
+          assigns ! (of-opd ! (member ! returned 10 r refl refl)) (from ! (hop ! (look ! 18 refl) (stop !))) (store ! 2 refl
+          (B .typed 𝓤 H A W (returned .of r) _ (returned .is r _ came))) $ move ! (2 ∷ 3 ∷ []) $
+          closes-datum ! tt B x (returned .of r) _ (returned .is r _ came) $ move ! (22 ∷ 23 ∷ []) $ opens-datum ! tt (of-width w32) z (λ _.
           -- [the place; its open borrow; the record's reference; its token; the last bytes; their token; _8; …; _0; …]
           assigns ! (un ! (member ! position 12 r refl refl) (fits _ _ _ _ p)) (from ! (stop !)) (init ! 6 refl (tt, fits _ _ _ _ p)) $
           assigns ! (of-opd ! (load ! (from ! (stop !)) (look ! 6 refl))) (from ! (hop ! (look ! 16 refl) (stop !))) (store ! 0 refl (tt, fits _ _ _ _ p)) $
@@ -284,22 +284,22 @@ module _ (B : Datum) (S : Declared) (L : LL.Laws S) (after : Member S L B) (posi
           move ! (22 ∷ 23 ∷ 20 ∷ 21 ∷ 18 ∷ 19 ∷ 16 ∷ 17 ∷ 14 ∷ 15 ∷ 12 ∷ 13 ∷ 10 ∷ 11 ∷ 8 ∷ 9 ∷ 6 ∷ 7 ∷ []) $
           frees-held ! $ frees-held ! $ frees-held ! $ frees-held ! $ frees-held ! $ frees-held ! $ frees-held ! $ frees-held ! $ frees-held ! $ free0 ! $
           -- [the place's reference; its token; the record's reference; its token; the last bytes; their token]
-          suffices ! _ (ends-at 𝓤 H A lent stayed c W bound (vint w32 (outcome .of r)) (outcome .of r) (after .of r, (zs, (position .of r, tt)))
+          suffices ! _ (ends-at 𝓤 H A on-loan stayed c W bound (vint w32 (outcome .of r)) (outcome .of r) (returned .of r, (zs, (position .of r, tt)))
           (tt, (l, (tt, tt)))) $ use0 W (raw (c (bound .0 .0) (bound .0 .3) .ensures i (outcome .of r)
-          (atExit lent (bound .0 .0) (bound .0 .3) (after .of r, (zs, (position .of r, tt)))))) (so (bound .0 .0) (bound .0 .3) i r zs p) $
+          (atExit on-loan (bound .0 .0) (bound .0 .3) (returned .of r, (zs, (position .of r, tt)))))) (so (bound .0 .0) (bound .0 .3) i r zs p) $
           owned ! u32 (Is u32) (uint-makes 𝓤 H A W w32) (outcome .of r) _ (outcome .is r _ came) $ nothing ! $ nothing ! $
           move ! (6 ∷ 8 ∷ 4 ∷ 0 ∷ []) $ group ! 4 $ move ! (0 ∷ 2 ∷ []) $ join ! $ move ! (4 ∷ 5 ∷ 3 ∷ 1 ∷ []) $ group ! 4 $ join ! $ done !))))))))))))
 
   -- the thin function k keeps its promise where g keeps its own
   pub thin-keeps : {M : Type 1} (𝓤 : URA M) (H : Heap 𝓤) (𝓜 : Model 𝓤 H) (𝓖 : GhostRules 𝓤 H) (𝓡 : Running 𝓤 H 𝓜) (γ : Routines) (k : Name)
       → Closed 𝓤 H (tables 𝓤 H 𝓜 𝓡 γ .C) (tables 𝓤 H 𝓜 𝓡 γ .Λ) k code → (routine : Routine) → γ g ≡ routine
-      → Triple 𝓤 (𝓡 .run routine) (Value B S L φ 𝓤 H (𝓖 .A)) → (c : Clauses 𝓤 lent) → Follows 𝓤 c
-      → Triple 𝓤 (tables 𝓤 H 𝓜 𝓡 γ .C k) (tripleOf 𝓤 H (𝓖 .A) (lent .signature) (closing 𝓤 H (𝓖 .A) lent c))
+      → Triple 𝓤 (𝓡 .run routine) (Value B S L φ 𝓤 H (𝓖 .A)) → (c : Clauses 𝓤 on-loan) → Promised 𝓤 c
+      → Triple 𝓤 (tables 𝓤 H 𝓜 𝓡 γ .C k) (tripleOf 𝓤 H (𝓖 .A) (on-loan .signature) (closing 𝓤 H (𝓖 .A) on-loan c))
   thin-keeps 𝓤 H 𝓜 𝓖 𝓡 γ k closed routine is known c so =
       let W = givenOf 𝓤 H 𝓜 𝓖 in
-      caller-keeps 𝓤 H 𝓜 𝓖 𝓡 γ k code closed g routine is (Value B S L φ 𝓤 H (𝓖 .A)) known lent stayed
+      caller-keeps 𝓤 H 𝓜 𝓖 𝓡 γ k code closed g routine is (Value B S L φ 𝓤 H (𝓖 .A)) known on-loan stayed
       (goes-ref 𝓤 H (𝓖 .A) W 3 0 tt (slot (B .row)), (goes-gave-slice 𝓤 H (𝓖 .A) W 3 1 tt (slot u8), (goes-ref 𝓤 H (𝓖 .A) W 3 2 tt (slot u32), tt)))
-      c (λ C Λ fm known. walked 𝓤 H (𝓖 .A) lent stayed c (WpFn 𝓤 H C Λ code) (λ κs. (ptr-vals, (slice-vals, (ptr-vals, tt))))
+      c (λ C Λ fm known. walked 𝓤 H (𝓖 .A) on-loan stayed c (WpFn 𝓤 H C Λ code) (λ κs. (ptr-vals, (slice-vals, (ptr-vals, tt))))
       (λ κs. (mut-tells (named 0) (κs .0) (B .row), (mut-slice-tells (named 1) (κs .1 .0) u8, (mut-tells (named 2) (κs .1 .1 .0) u32, tt))))
       (λ κs qs bounds a i are. walk 𝓤 H (𝓖 .A) W C Λ fm known c so (κs .0) (κs .1 .0) (κs .1 .1 .0) (qs .0) (qs .1 .0) (qs .1 .1 .0)
       (a .0) (a .1 .0) (a .1 .1 .0) i (are .1 .0 .0 .1)))

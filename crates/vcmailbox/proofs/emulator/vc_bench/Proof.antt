@@ -48,17 +48,17 @@ module _ {M : Type 1} (𝓤 : URA M) (H : Heap 𝓤) (𝓜 : Model 𝓤 H) (𝓖
   abbrev Bench : Contract 𝓤
   Bench = tripleOf 𝓤 H (𝓖 .A) callee.signature (callee.spec 𝓤 H (𝓖 .A) (𝓜 .mem) (𝓡 .run))
 
-  abbrev Walk : Contract 𝓤
-  Walk = walkOf 𝓤 H (𝓖 .A) f.ended stayed (f.clauses 𝓤 H (𝓖 .A) (𝓜 .mem) (𝓡 .run))
+  abbrev Way : Contract 𝓤
+  Way = walkOf 𝓤 H (𝓖 .A) f.ended stayed (f.clauses 𝓤 H (𝓖 .A) (𝓜 .mem) (𝓡 .run))
 
   module _ (C : Calls 𝓤 H) (Λ : Loops 𝓤 H) (fm : FmC 𝓤 H (W .laws) C) (known : Triple 𝓤 (C callee-def.name) Bench) (κ : Lft) (q : Share) (x : RefT Board) where
-    abbrev bound : Walk .Ghost
+    abbrev bound : Way .Ghost
     bound = (((κ, tt), (q, tt), tt, (x, tt), (ptr-vals x, tt)), tt)
 
-    walk : ent 𝓤 (Walk .pre bound) (WpFn 𝓤 H C Λ code.function (Walk .args bound) (Walk .post bound))
+    walk : ent 𝓤 (Way .pre bound) (WpFn 𝓤 H C Λ code.function (Way .args bound) (Way .post bound))
     walk =
         qed W (((‵ (flft κ q) ⊛ ‵ ftrue) ⊛ ‵ (MutRef erased κ T.the-row .own x (ptr-vals x)) ⊛ ‵ ftrue) ∷ ‵ ftrue ∷ []) ∵
-        split ! $ split ! $ move ! (2 ∷ []) $ split ! $ keep ! (0 ∷ 2 ∷ []) $ enter ! C Λ code.function (Walk .args bound) (Walk .post bound) $
+        split ! $ split ! $ move ! (2 ∷ []) $ split ! $ keep ! (0 ∷ 2 ∷ []) $ enter ! C Λ code.function (Way .args bound) (Way .post bound) $
         alloc1 ! (λ l₀. alloc1 ! (λ l₁. alloc1 ! (λ l₂. alloc0 ! $ params1 ! $ pass1 ! (init ! 2 refl (tt, tt)) $ pass0 ! $
         -- [_2; …; _0; …; the reference; its token]
         nothing ! $ nothing ! $ nothing ! $ join ! $ join ! $ use1 W (raw (Bench .pre ((tt, tt, tt, tt, tt), tt))) (id⊢ 𝓤 _) $
