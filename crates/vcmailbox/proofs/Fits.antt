@@ -16,6 +16,10 @@ use Rattle.message.specs.declared.builder.Cursor.{Cursor}
 use Rattle.message.specs.declared.builder.Finished.{Finished}
 use Rattle.message.specs.declared.lister.Listed.{Listed}
 use Rattle.message.specs.declared.reader.Reading.{Reading}
+use Rattle.board.specs.declared.record.Board.{Board}
+use Rattle.responder.proofs.Laws.Place.{reply-inside}
+use Rattle.responder.specs.Reply.{reply}
+use Rattle.responder.specs.declared.respond.Served.{Served}
 
 inside : {n k : ℕ} → n ≡ k → k ≤ largest → Fits w32 n
 inside e h = record { fits = omega arith }
@@ -51,3 +55,6 @@ add-cursor m c id size request {m₁} {r} e f =
 
 pub finish-size : (m : List ℕ) (c : Cursor) {m₁ : List ℕ} {r : Finished} → leaves m₁ r ≡ finished m c → Fits w32 (r .size)
 finish-size m c e = inside (ap (λ (x : Call Finished). x .answer .size) e) (finish-inside m c)
+
+pub serve-place : (b : Board) (m : List ℕ) (r : Served) (m₁ : List ℕ) → leaves m₁ r ≡ reply b m → Fits w32 (r .place)
+serve-place b m r m₁ e = inside (ap (λ (x : Call Served). x .answer .place) e) (reply-inside b m)
