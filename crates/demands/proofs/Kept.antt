@@ -13,6 +13,7 @@ use Rattle.board.proofs.Laws.Valid.{valid-parts, parts-valid}
 use Rattle.board.specs.Valid.{valid, validDisplay}
 use Rattle.board.specs.declared.display.Display.{Display}
 use Rattle.board.specs.declared.record.Board.{Board}
+use Rattle.table.specs.declared.kinds.Kind.{Kind}
 use Rattle.tags.proofs.Laws.Kept.{outside-valid}
 use Rattle.display.proofs.Laws.Kept.{decided-valid}
 use Rattle.display.specs.declared.operation.Operation.{Operation}
@@ -25,7 +26,8 @@ request-valid : (b : Board) (r : Request) → valid b ≡ true → valid (afterB
 unfolding afterBy
 request-valid b passed v = v
 request-valid b short v = v
-request-valid b (asks k bytes) v = outside-valid k (first bytes) (second bytes) b v
+request-valid b (asks (Kind.Outside t) bytes) v = outside-valid t (first bytes) (second bytes) b v
+request-valid b (asks (Kind.Group t) bytes) v = v
 
 requests-valid : (b : Board) (rs : List Request) → valid b ≡ true → valid (after b rs) ≡ true
 requests-valid b [] v = v

@@ -14,7 +14,7 @@ use Rattle.message.specs.declared.walk.Tag.{Tag}
 use Rattle.board.specs.Bench.{bench}
 use Rattle.board.specs.Display.{pitch, need, sides, depths, offsets, possible, supported}
 use Rattle.board.specs.Valid.{validFacts, validState, validDevice, validClock, validVoltage, validBuffer, validDisplay, valid}
-use Rattle.table.specs.Table.{outsideTags, groupTags, table, rowOf}
+use Rattle.table.specs.Table.{fact, outsideTags, groupTags, table, rowOf}
 use Rattle.table.specs.declared.kinds.FactTag.{FactTag}
 use Rattle.table.specs.declared.kinds.FrameTag.{FrameTag}
 use Rattle.table.specs.declared.kinds.Kind.{Kind}
@@ -76,7 +76,7 @@ alike = (
   refl,
   refl,
   lit≤ tt,
-  known short long (tag 8 0x00010003 4) (tag 8 0x00010003 8) (Kind.Fact FactTag.Mac) 0 refl refl,
+  known short long (tag 8 0x00010003 4) (tag 8 0x00010003 8) (fact FactTag.Mac) 0 refl refl,
   (
     refl,
     refl,
@@ -86,8 +86,8 @@ alike = (
       refl,
       refl,
       lit≤ tt,
-      known short long (tag 40 0x00048005 4) (tag 48 0x00048005 8) (Kind.Frame (FrameTag.Of Mode.Set Setting.Depth)) 4 refl refl,
-      (refl, refl, lit≤ tt, known short long (tag 56 0x00040005 4) (tag 68 0x00040005 4) (Kind.Frame (FrameTag.Of Mode.Get Setting.Depth)) 0 refl refl, tt),
+      known short long (tag 40 0x00048005 4) (tag 48 0x00048005 8) (Kind.Group (FrameTag.Of Mode.Set Setting.Depth)) 4 refl refl,
+      (refl, refl, lit≤ tt, known short long (tag 56 0x00040005 4) (tag 68 0x00040005 4) (Kind.Group (FrameTag.Of Mode.Get Setting.Depth)) 0 refl refl, tt),
     ),
   ),
 )
