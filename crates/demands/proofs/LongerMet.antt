@@ -18,7 +18,6 @@ use Rattle.table.specs.Table.{fact, outsideTags, groupTags, table, rowOf}
 use Rattle.table.specs.declared.kinds.FactTag.{FactTag}
 use Rattle.table.specs.declared.kinds.FrameTag.{FrameTag}
 use Rattle.table.specs.declared.kinds.Kind.{Kind}
-use Rattle.table.specs.declared.kinds.Mode.{Mode}
 use Rattle.table.specs.declared.rows.Row.{Row}
 use Rattle.table.specs.declared.kinds.Setting.{Setting}
 use Rattle.answers.specs.Answer.{answerBytes}
@@ -86,8 +85,8 @@ alike = (
       refl,
       refl,
       lit≤ tt,
-      known short long (tag 40 0x00048005 4) (tag 48 0x00048005 8) (Kind.Group (FrameTag.Of Mode.Set Setting.Depth)) 4 refl refl,
-      (refl, refl, lit≤ tt, known short long (tag 56 0x00040005 4) (tag 68 0x00040005 4) (Kind.Group (FrameTag.Of Mode.Get Setting.Depth)) 0 refl refl, tt),
+      known short long (tag 40 0x00048005 4) (tag 48 0x00048005 8) (Kind.Group (FrameTag.Set Setting.Depth)) 4 refl refl,
+      (refl, refl, lit≤ tt, known short long (tag 56 0x00040005 4) (tag 68 0x00040005 4) (Kind.Group (FrameTag.Get Setting.Depth)) 0 refl refl, tt),
     ),
   ),
 )

@@ -9,7 +9,6 @@ use Rattle.board.specs.Display.{pitch, need, sides, depths, offsets, possible, 
 use Rattle.board.specs.declared.display.Display.{Display}
 use Rattle.board.specs.declared.facts.Span.{Span}
 use Rattle.table.specs.declared.kinds.FrameTag.{FrameTag}
-use Rattle.table.specs.declared.kinds.Mode.{Mode}
 use Rattle.table.specs.declared.kinds.Setting.{Setting}
 use Rattle.answers.specs.declared.answer.Answer.{Answer}
 use Rattle.display.specs.Decision.{span, nowhere, oneBit, placedAt, allocatable, fitsBuffer, accepted, decided, groupAnswer}
@@ -55,13 +54,13 @@ case q r = record { question = q; reply = r }
 
 -- ---- tags
 abbrev pub get : Setting → Asked
-get s = record { tag = FrameTag.Of Mode.Get s; first = 0; second = 0 }
+get s = record { tag = FrameTag.Get s; first = 0; second = 0 }
 
 abbrev pub test : Setting → (a b : ℕ) → Asked
-test s a b = record { tag = FrameTag.Of Mode.Test s; first = a; second = b }
+test s a b = record { tag = FrameTag.Test s; first = a; second = b }
 
 abbrev pub set : Setting → (a b : ℕ) → Asked
-set s a b = record { tag = FrameTag.Of Mode.Set s; first = a; second = b }
+set s a b = record { tag = FrameTag.Set s; first = a; second = b }
 
 abbrev pub row : Asked
 row = record { tag = FrameTag.Pitch; first = 0; second = 0 }

@@ -92,7 +92,9 @@ settingAnswer Setting.Offset s = Answer.Pair (s .offset .x) (s .offset .y)
 
 -- every get, test and set the settings shown, every allocate the same base and size, release nothing
 unfoldable pub groupAnswer : Decision → FrameTag → Answer
-groupAnswer d (FrameTag.Of m s) = settingAnswer s (d .shown)
+groupAnswer d (FrameTag.Get s) = settingAnswer s (d .shown)
+groupAnswer d (FrameTag.Test s) = settingAnswer s (d .shown)
+groupAnswer d (FrameTag.Set s) = settingAnswer s (d .shown)
 groupAnswer d FrameTag.Pitch = Answer.Word (d .pitch)
 groupAnswer d FrameTag.Allocate = Answer.Pair (d .placed .base) (d .placed .size)
 groupAnswer d FrameTag.Release = Answer.Nothing

@@ -5,7 +5,6 @@ use Rattle.board.specs.declared.display.Settings.{Settings}
 use Rattle.board.specs.declared.display.Offset.{Offset}
 use Rattle.board.specs.declared.display.Size.{Size}
 use Rattle.table.specs.declared.kinds.FrameTag.{FrameTag}
-use Rattle.table.specs.declared.kinds.Mode.{Mode}
 use Rattle.table.specs.declared.kinds.Setting.{Setting}
 use Rattle.display.specs.declared.operation.Operation.{Operation}
 
@@ -30,10 +29,10 @@ withOther o = record { tests = o .tests; others = true; proposal = o .proposal; 
 
 -- one tag more, with its request's words: tests and sets go into the proposal, later over earlier; the last allocate gives the alignment
 unfoldable pub noted : FrameTag → (a b : ℕ) → Operation → Operation
-noted (FrameTag.Of Mode.Get s) a b o = withOther o
-noted (FrameTag.Of Mode.Test s) a b o =
+noted (FrameTag.Get s) a b o = withOther o
+noted (FrameTag.Test s) a b o =
     record { tests = true; others = o .others; proposal = withSetting s a b (o .proposal); allocates = o .allocates; alignment = o .alignment; releases = o .releases }
-noted (FrameTag.Of Mode.Set s) a b o =
+noted (FrameTag.Set s) a b o =
     record { tests = o .tests; others = true; proposal = withSetting s a b (o .proposal); allocates = o .allocates; alignment = o .alignment; releases = o .releases }
 noted FrameTag.Pitch a b o = withOther o
 noted FrameTag.Allocate a b o = record { tests = o .tests; others = true; proposal = o .proposal; allocates = true; alignment = a; releases = o .releases }

@@ -30,7 +30,9 @@ fn group_answer(d: Decision, tag: FrameTag) -> Answer
     ensures { λ r. ⌜ r ≡ groupAnswer d tag ⌝ }
 {
     match tag {
-        FrameTag::Of(_, setting) => setting_answer(d.shown, setting),
+        FrameTag::Get(setting) => setting_answer(d.shown, setting),
+        FrameTag::Test(setting) => setting_answer(d.shown, setting),
+        FrameTag::Set(setting) => setting_answer(d.shown, setting),
         FrameTag::Pitch => Answer::Word(d.pitch),
         FrameTag::Allocate => Answer::Pair(d.placed.base, d.placed.size),
         FrameTag::Release => Answer::Nothing,

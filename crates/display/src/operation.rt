@@ -3,10 +3,8 @@ use board::display::Offset;
 use board::display::Settings;
 use board::display::Size;
 use table::kinds::FrameTag;
-use table::kinds::Mode;
 use table::kinds::Setting;
 ghost use mathlib.Core.Path.{_≡_};
-ghost use Rattle.table.specs.declared.kinds.FrameTag.{FrameTag};
 ghost use Rattle.display.specs.Operation.{withSetting, unasked, withOther, noted};
 
 // What the group tags come to: whether there are tests, and others; the settings that they propose,
@@ -81,31 +79,23 @@ fn with_other(mut o: Operation) -> Operation
     o
 }
 
-fn note_setting(mut o: Operation, mode: Mode, setting: Setting, a: u32, b: u32) -> Operation
-    ensures { λ r. ⌜ r ≡ noted (FrameTag.Of mode setting) a b o ⌝ }
-{
-    match mode {
-        Mode::Get => with_other(o),
-        Mode::Test => {
-            let proposal = with_setting(o.proposal, setting, a, b);
-            o.proposal = proposal;
-            o.tests = true;
-            o
-        }
-        Mode::Set => {
-            let proposal = with_setting(o.proposal, setting, a, b);
-            o.proposal = proposal;
-            with_other(o)
-        }
-    }
-}
-
 // The operation with one tag more, a and b being its request's words.
 pub fn note(mut o: Operation, tag: FrameTag, a: u32, b: u32) -> Operation
     ensures { λ r. ⌜ r ≡ noted tag a b o ⌝ }
 {
     match tag {
-        FrameTag::Of(mode, setting) => note_setting(o, mode, setting, a, b),
+        FrameTag::Get(_) => with_other(o),
+        FrameTag::Test(setting) => {
+            let proposal = with_setting(o.proposal, setting, a, b);
+            o.proposal = proposal;
+            o.tests = true;
+            o
+        }
+        FrameTag::Set(setting) => {
+            let proposal = with_setting(o.proposal, setting, a, b);
+            o.proposal = proposal;
+            with_other(o)
+        }
         FrameTag::Pitch => with_other(o),
         FrameTag::Allocate => {
             o.allocates = true;

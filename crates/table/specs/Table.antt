@@ -7,7 +7,6 @@ use Rattle.table.specs.declared.kinds.ClockTag.{ClockTag}
 use Rattle.table.specs.declared.kinds.FactTag.{FactTag}
 use Rattle.table.specs.declared.kinds.FrameTag.{FrameTag}
 use Rattle.table.specs.declared.kinds.Kind.{Kind}
-use Rattle.table.specs.declared.kinds.Mode.{Mode}
 use Rattle.table.specs.declared.kinds.OutsideTag.{OutsideTag}
 use Rattle.table.specs.declared.kinds.PowerTag.{PowerTag}
 use Rattle.table.specs.declared.rows.Row.{Row}
@@ -78,24 +77,24 @@ outsideTags =
 -- the frame buffer group: get, test and set of each setting, then pitch, allocate, release
 unfoldable pub groupTags : List Entry
 groupTags =
-    entry 0x0004_0003 0 8 (Kind.Group (FrameTag.Of Mode.Get Setting.Physical))
-    ∷ entry 0x0004_4003 8 8 (Kind.Group (FrameTag.Of Mode.Test Setting.Physical))
-    ∷ entry 0x0004_8003 8 8 (Kind.Group (FrameTag.Of Mode.Set Setting.Physical))
-    ∷ entry 0x0004_0004 0 8 (Kind.Group (FrameTag.Of Mode.Get Setting.Virtual))
-    ∷ entry 0x0004_4004 8 8 (Kind.Group (FrameTag.Of Mode.Test Setting.Virtual))
-    ∷ entry 0x0004_8004 8 8 (Kind.Group (FrameTag.Of Mode.Set Setting.Virtual))
-    ∷ entry 0x0004_0005 0 4 (Kind.Group (FrameTag.Of Mode.Get Setting.Depth))
-    ∷ entry 0x0004_4005 4 4 (Kind.Group (FrameTag.Of Mode.Test Setting.Depth))
-    ∷ entry 0x0004_8005 4 4 (Kind.Group (FrameTag.Of Mode.Set Setting.Depth))
-    ∷ entry 0x0004_0006 0 4 (Kind.Group (FrameTag.Of Mode.Get Setting.Order))
-    ∷ entry 0x0004_4006 4 4 (Kind.Group (FrameTag.Of Mode.Test Setting.Order))
-    ∷ entry 0x0004_8006 4 4 (Kind.Group (FrameTag.Of Mode.Set Setting.Order))
-    ∷ entry 0x0004_0007 0 4 (Kind.Group (FrameTag.Of Mode.Get Setting.Alpha))
-    ∷ entry 0x0004_4007 4 4 (Kind.Group (FrameTag.Of Mode.Test Setting.Alpha))
-    ∷ entry 0x0004_8007 4 4 (Kind.Group (FrameTag.Of Mode.Set Setting.Alpha))
-    ∷ entry 0x0004_0009 0 8 (Kind.Group (FrameTag.Of Mode.Get Setting.Offset))
-    ∷ entry 0x0004_4009 8 8 (Kind.Group (FrameTag.Of Mode.Test Setting.Offset))
-    ∷ entry 0x0004_8009 8 8 (Kind.Group (FrameTag.Of Mode.Set Setting.Offset))
+    entry 0x0004_0003 0 8 (Kind.Group (FrameTag.Get Setting.Physical))
+    ∷ entry 0x0004_4003 8 8 (Kind.Group (FrameTag.Test Setting.Physical))
+    ∷ entry 0x0004_8003 8 8 (Kind.Group (FrameTag.Set Setting.Physical))
+    ∷ entry 0x0004_0004 0 8 (Kind.Group (FrameTag.Get Setting.Virtual))
+    ∷ entry 0x0004_4004 8 8 (Kind.Group (FrameTag.Test Setting.Virtual))
+    ∷ entry 0x0004_8004 8 8 (Kind.Group (FrameTag.Set Setting.Virtual))
+    ∷ entry 0x0004_0005 0 4 (Kind.Group (FrameTag.Get Setting.Depth))
+    ∷ entry 0x0004_4005 4 4 (Kind.Group (FrameTag.Test Setting.Depth))
+    ∷ entry 0x0004_8005 4 4 (Kind.Group (FrameTag.Set Setting.Depth))
+    ∷ entry 0x0004_0006 0 4 (Kind.Group (FrameTag.Get Setting.Order))
+    ∷ entry 0x0004_4006 4 4 (Kind.Group (FrameTag.Test Setting.Order))
+    ∷ entry 0x0004_8006 4 4 (Kind.Group (FrameTag.Set Setting.Order))
+    ∷ entry 0x0004_0007 0 4 (Kind.Group (FrameTag.Get Setting.Alpha))
+    ∷ entry 0x0004_4007 4 4 (Kind.Group (FrameTag.Test Setting.Alpha))
+    ∷ entry 0x0004_8007 4 4 (Kind.Group (FrameTag.Set Setting.Alpha))
+    ∷ entry 0x0004_0009 0 8 (Kind.Group (FrameTag.Get Setting.Offset))
+    ∷ entry 0x0004_4009 8 8 (Kind.Group (FrameTag.Test Setting.Offset))
+    ∷ entry 0x0004_8009 8 8 (Kind.Group (FrameTag.Set Setting.Offset))
     ∷ entry 0x0004_0008 0 4 (Kind.Group FrameTag.Pitch)
     ∷ entry 0x0004_0001 4 8 (Kind.Group FrameTag.Allocate)
     ∷ entry 0x0004_8001 0 0 (Kind.Group FrameTag.Release)

@@ -38,13 +38,6 @@ pub enum TemperatureTag {
     Max,
 }
 
-// What a tag of the frame buffer group does with a setting.
-pub enum Mode {
-    Get,
-    Test,
-    Set,
-}
-
 pub enum Setting {
     Physical,
     Virtual,
@@ -54,8 +47,11 @@ pub enum Setting {
     Offset,
 }
 
+// What a tag of the frame buffer group asks.
 pub enum FrameTag {
-    Of(Mode, Setting),
+    Get(Setting),
+    Test(Setting),
+    Set(Setting),
     Pitch,
     Allocate,
     Release,
