@@ -11,7 +11,8 @@ ghost use mathlib.Core.List.{_++_};
 ghost use mathlib.Core.Path.{_≡_};
 ghost use Rattle.words.specs.Numbers.{le};
 ghost use Rattle.answers.specs.Answer.{answerBytes};
-ghost use Rattle.answers.specs.Reply.{answered, AnswerFits};
+ghost use Rattle.answers.specs.Helpers.{AnswerFits};
+ghost use Rattle.answers.specs.Reply.{answered};
 ghost use lib.ListN.{length};
 
 // Answers the tag at `at`, whose value has `size` bytes: its tag word, and its value's first bytes.

@@ -8,7 +8,6 @@ use native.Mathlib.Omega.{arith}
 use borrow.Author.Tests.{ltb-true, ltb-false}
 use lib.Dec.{ltb, leb}
 use lib.ListN.{length, take, drop, getD}
-use Rattle.words.specs.Numbers.{word}
 use Rattle.message.proofs.Laws.Found.{unmet-end}
 use Rattle.message.proofs.Laws.Paired.{Paired, paired-found}
 use Rattle.message.specs.Builder.{Call}

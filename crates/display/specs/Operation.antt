@@ -2,7 +2,6 @@
 use mathlib.Core.Bool.{true, false}
 use Prim.Native.Nat.{ℕ}
 use Rattle.board.specs.declared.display.Settings.{Settings}
-use Rattle.board.specs.declared.display.Offset.{Offset}
 use Rattle.board.specs.declared.display.Size.{Size}
 use Rattle.table.specs.declared.kinds.FrameTag.{FrameTag}
 use Rattle.table.specs.declared.kinds.Setting.{Setting}

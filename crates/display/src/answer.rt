@@ -8,7 +8,7 @@ use table::kinds::FrameTag;
 use table::kinds::Setting;
 ghost use mathlib.Core.Path.{_≡_};
 ghost use lib.ListN.{length};
-ghost use Rattle.answers.specs.Reply.{AnswerFits};
+ghost use Rattle.answers.specs.Helpers.{AnswerFits};
 ghost use Rattle.display.specs.Decision.{settingAnswer, groupAnswer};
 ghost use Rattle.display.specs.Told.{told};
 

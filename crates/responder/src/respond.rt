@@ -19,7 +19,7 @@ ghost use lib.Dec.{eqb};
 ghost use Rattle.message.specs.Builder.{leaves};
 ghost use Rattle.message.specs.Outcomes.{done};
 ghost use Rattle.message.specs.Sizes.{header};
-ghost use Rattle.message.specs.Walk.{Walking};
+ghost use Rattle.message.specs.Helpers.{Walking};
 ghost use Rattle.board.specs.Valid.{valid, validDisplay};
 ghost use Rattle.responder.specs.Answers.{groupBy};
 ghost use Rattle.responder.specs.Reply.{codeOf, served, reply};

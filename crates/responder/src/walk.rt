@@ -32,7 +32,7 @@ ghost use mathlib.Core.Path.{_≡_};
 ghost use Rattle.message.specs.Builder.{leaves};
 ghost use Rattle.message.specs.Outcomes.{shortRequest};
 ghost use Rattle.message.specs.Sizes.{header};
-ghost use Rattle.message.specs.Walk.{Walking};
+ghost use Rattle.message.specs.Helpers.{Walking};
 ghost use Rattle.responder.specs.Serve.{tagsServed};
 
 // How a walk ended, the operation that the group's tags come to, and the record that it left.

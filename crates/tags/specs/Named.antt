@@ -1,13 +1,22 @@
 -- Describes code: the item that a tag names by its id, and what is answered where none has the id.
 use mathlib.Core.Path.{_≡_}
-use Prim.Native.Nat.{ℕ}
+use Prim.Native.Nat.{ℕ, _<_}
 use Rattle.board.specs.Items.{noDevice, noClock, noVoltage}
 use Rattle.table.specs.declared.kinds.OutsideTag.{OutsideTag}
 use Rattle.tags.specs.Clock.{clockPlace, clockValue}
-use Rattle.tags.specs.Place.{Within}
+use Rattle.tags.specs.Place.{placeOf}
 use Rattle.tags.specs.Power.{devicePlace, powerValue}
 use Rattle.tags.specs.Voltage.{voltagePlace, voltageValue}
 use Rattle.tags.specs.declared.place.Place.{Place}
+
+-- a place is within the items
+abbrev pub Within : ℕ → Place → Type 0
+Within count (Place.At i) = i < count
+Within count Place.Unlisted = Unit {0}
+
+pub record Placed (id first count : ℕ) (r : Place) : Type 0 where
+  pub is : r ≡ placeOf id first count
+  pub within : Within count r
 
 abbrev pub placeIn : OutsideTag → (id : ℕ) → Place
 placeIn (OutsideTag.Fact t) id = Place.At 0

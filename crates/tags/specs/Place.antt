@@ -1,8 +1,7 @@
 -- Items of a kind, named by ids that begin at `first`.
 use mathlib.Core.Bool.{cond}
 use mathlib.Core.List.{List}
-use mathlib.Core.Path.{_≡_}
-use Prim.Native.Nat.{ℕ, _-_, _<_}
+use Prim.Native.Nat.{ℕ, _-_}
 use lib.Dec.{leb, ltb}
 use lib.ListN.{getD, set}
 use Rattle.tags.specs.declared.place.Place.{Place}
@@ -20,12 +19,3 @@ item none xs Place.Unlisted = none
 abbrev pub change : {A : Type 0} → A → (A → A) → List A → Place → List A
 change none f xs (Place.At i) = set xs i (f (getD xs i none))
 change none f xs Place.Unlisted = xs
-
--- a place is within the items
-abbrev pub Within : ℕ → Place → Type 0
-Within count (Place.At i) = i < count
-Within count Place.Unlisted = Unit {0}
-
-pub record Placed (id first count : ℕ) (r : Place) : Type 0 where
-  pub is : r ≡ placeOf id first count
-  pub within : Within count r

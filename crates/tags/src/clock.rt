@@ -11,7 +11,7 @@ ghost use mathlib.Core.Path.{_≡_};
 ghost use Prim.Native.Nat.{min, max};
 ghost use Rattle.board.specs.Items.{noClock};
 ghost use Rattle.tags.specs.Clock.{clamp, settled, clockAfter, clockValue};
-ghost use Rattle.tags.specs.Place.{Placed};
+ghost use Rattle.tags.specs.Named.{Placed};
 
 // The place of the clock of an id, 1 to 14.
 pub fn clock_place(id: u32) -> Place

@@ -1,5 +1,5 @@
 // Where the item of an id stands among those of its kind.
-ghost use Rattle.tags.specs.Place.{Placed};
+ghost use Rattle.tags.specs.Named.{Placed};
 
 pub enum Place {
     At(usize),

@@ -9,7 +9,7 @@ use board::items::State;
 use table::kinds::PowerTag;
 ghost use mathlib.Core.Path.{_≡_};
 ghost use Rattle.board.specs.Items.{noDevice};
-ghost use Rattle.tags.specs.Place.{Placed};
+ghost use Rattle.tags.specs.Named.{Placed};
 ghost use Rattle.tags.specs.Power.{powerAfter, powerValue};
 
 // The place of the device of an id, 0 to 10.

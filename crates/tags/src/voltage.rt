@@ -6,7 +6,7 @@ use board::items::Voltage;
 use table::kinds::VoltageTag;
 ghost use mathlib.Core.Path.{_≡_};
 ghost use Rattle.board.specs.Items.{noVoltage};
-ghost use Rattle.tags.specs.Place.{Placed};
+ghost use Rattle.tags.specs.Named.{Placed};
 ghost use Rattle.tags.specs.Voltage.{maxOffset, minOffset, voltageAfter, voltageValue};
 
 // The place of the voltage of an id, 1 to 4.

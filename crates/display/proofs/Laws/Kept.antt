@@ -7,16 +7,16 @@ use native.Mathlib.Nat.{eq-zero-or-pos}
 use native.Mathlib.Omega.{arith}
 use borrow.Author.Tests.{leb-true}
 use lib.Dec.{eqb, leb}
-use Rattle.board.specs.Display.{pitch, need, possible, supported}
+use Rattle.board.specs.Display.{need, supported}
 use Rattle.board.specs.Valid.{validBuffer, validDisplay}
 use Rattle.board.specs.declared.display.Display.{Display}
 use Rattle.board.specs.declared.facts.Span.{Span}
-use Rattle.board.proofs.Laws.Display.{need-least, supported-is}
+use Rattle.board.proofs.Laws.Display.{need-least}
 use Rattle.board.proofs.Laws.Valid.{display-parts, parts-display, buffer-stands, buffer-valid, no-buffer-valid}
 use Rattle.display.specs.Decision.{placedAt, accepted, bufferAfter, tested, carriedOut, decidedBy, decided}
 use Rattle.display.specs.declared.decision.Decision.{Decision}
 use Rattle.display.specs.declared.operation.Operation.{Operation}
-use Rattle.display.proofs.Laws.Decision.{valid-possible, accepted-supported, accepted-possible, accepted-placed, accepted-fits, one-stands, decided-by, decided-cases}
+use Rattle.display.proofs.Laws.Decision.{accepted-supported, accepted-possible, accepted-placed, accepted-fits, one-stands, decided-by, decided-cases}
 
 -- where none stands, what is needed does not matter
 none-valid : (region : Span) (n : ℕ) (buffer : Span) → buffer .size ≡ 0 → validBuffer region n buffer ≡ eqb (buffer .base) 0

@@ -18,7 +18,7 @@ use Rattle.table.specs.declared.kinds.Kind.{Kind}
 use Rattle.table.specs.declared.kinds.OutsideTag.{OutsideTag}
 use Rattle.table.specs.declared.rows.Row.{Row}
 use Rattle.requests.specs.Ask.{askOf, InMessage, RequestFits}
-use Rattle.requests.specs.Requests.{requestBytes, requestBy, requestOf, valueOf, asks}
+use Rattle.requests.specs.Requests.{requestBy, requestOf, valueOf, asks}
 use Rattle.requests.specs.declared.ask.Ask.{Ask}
 
 -- ---- a word of a request

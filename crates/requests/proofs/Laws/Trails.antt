@@ -14,7 +14,8 @@ use Rattle.message.proofs.Laws.Steps.{Found, found, step-same}
 use Rattle.message.proofs.Laws.Walks.{no-tag, walk-tag, walk-stop}
 use Rattle.message.proofs.walk.Step
 use Rattle.message.specs.Sizes.{tagHeader}
-use Rattle.message.specs.Walk.{Walk, step, endingOf, walkFrom, Walking}
+use Rattle.message.specs.Helpers.{Walking}
+use Rattle.message.specs.Walk.{Walk, step, endingOf, walkFrom}
 use Rattle.message.specs.declared.walk.Ending.{Ending}
 use Rattle.message.specs.declared.walk.Step.{Step}
 use Rattle.message.specs.declared.walk.Tag.{Tag}

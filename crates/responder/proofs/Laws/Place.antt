@@ -9,7 +9,7 @@ use Rattle.words.specs.Numbers.{word}
 use Rattle.message.proofs.Laws.Opening.{opened-walking}
 use Rattle.message.specs.Opening.{opened}
 use Rattle.message.specs.Sizes.{header, codePlace, largest}
-use Rattle.message.specs.Walk.{Walking}
+use Rattle.message.specs.Helpers.{Walking}
 use Rattle.message.specs.declared.opening.Opened.{Opened}
 use Rattle.board.specs.Valid.{valid}
 use Rattle.board.specs.declared.record.Board.{Board}

@@ -14,17 +14,15 @@ use Rattle.message.specs.Builder.{Call, leaves}
 use Rattle.message.specs.Opening.{opened}
 use Rattle.message.specs.Outcomes.{done, notRequest, invalidBoard}
 use Rattle.message.specs.Sizes.{header, codePlace}
-use Rattle.message.specs.Walk.{Walking}
+use Rattle.message.specs.Helpers.{Walking}
 use Rattle.message.specs.declared.opening.Message.{Message}
 use Rattle.message.specs.declared.opening.Opened.{Opened}
 use Rattle.message.specs.declared.walk.Ending.{Ending}
-use Rattle.board.proofs.Laws.Valid.{valid-parts}
-use Rattle.board.specs.Valid.{valid, validDisplay}
+use Rattle.board.specs.Valid.{valid}
 use Rattle.board.specs.declared.display.Display.{Display}
 use Rattle.board.specs.declared.record.Board.{Board}
 use Rattle.tags.proofs.Laws.Kept.{SameFixed}
 use Rattle.display.specs.Decision.{leftAlone, decided}
-use Rattle.display.specs.Operation.{unasked}
 use Rattle.display.specs.declared.decision.Decision.{Decision}
 use Rattle.display.specs.declared.operation.Operation.{Operation}
 use Rattle.requests.specs.Requests.{Trail, trail}
@@ -33,7 +31,7 @@ use Rattle.responder.proofs.Laws.Group.{answers-unanswered}
 use Rattle.responder.proofs.Laws.Saids.{few-characters}
 use Rattle.responder.proofs.Laws.Twice.{twice}
 use Rattle.responder.proofs.Laws.Written.{writes-length}
-use Rattle.responder.specs.Answers.{Said, operation, groupBy, groupOf, answers, after}
+use Rattle.responder.specs.Answers.{Said, groupBy, groupOf, answers, after}
 use Rattle.responder.specs.Reply.{writeAll, codeOf, withDisplay, served, openedIf, reply}
 use Rattle.responder.specs.Serve.{bytesOf, tagsServed, groupServed}
 use Rattle.responder.specs.declared.respond.Served.{Served}

@@ -14,7 +14,8 @@ use Rattle.message.proofs.walk.Step
 use Rattle.message.specs.Builder.{leaves}
 use Rattle.message.specs.Outcomes.{shortRequest}
 use Rattle.message.specs.Sizes.{header}
-use Rattle.message.specs.Walk.{step, endingOf, Walking}
+use Rattle.message.specs.Helpers.{Walking}
+use Rattle.message.specs.Walk.{step, endingOf}
 use Rattle.message.specs.declared.walk.Ending.{Ending}
 use Rattle.message.specs.declared.walk.Step.{Step}
 use Rattle.message.specs.declared.walk.Tag.{Tag}
@@ -23,7 +24,8 @@ use Rattle.table.specs.declared.kinds.FrameTag.{FrameTag}
 use Rattle.table.specs.declared.kinds.Kind.{Kind}
 use Rattle.table.specs.declared.kinds.OutsideTag.{OutsideTag}
 use Rattle.answers.specs.Answer.{answerBytes}
-use Rattle.answers.specs.Reply.{answered, AnswerFits}
+use Rattle.answers.specs.Helpers.{AnswerFits}
+use Rattle.answers.specs.Reply.{answered}
 use Rattle.answers.specs.declared.answer.Answer.{Answer}
 use Rattle.tags.proofs.Laws.Served.{Serves}
 use Rattle.tags.specs.Outside.{outsideAnswer, outsideAfter}

@@ -15,7 +15,7 @@ use Rattle.table.specs.declared.kinds.PowerTag.{PowerTag}
 use Rattle.table.specs.declared.kinds.VoltageTag.{VoltageTag}
 use Rattle.tags.specs.Clock.{clamp, settled, clockAfter, clockValue}
 use Rattle.tags.specs.Power.{powerAfter, powerValue}
-use Rattle.tags.specs.State.{present, switched}
+use Rattle.tags.specs.State.{switched}
 use Rattle.tags.specs.Voltage.{voltageAfter, voltageValue}
 
 -- ---- an absent or invalid item is left alone

@@ -1,0 +1,28 @@
+-- Describes code: what helpers ask of their callers.
+use mathlib.Core.List.{List}
+use mathlib.Core.Path.{_≡_}
+use Prim.Native.Nat.{ℕ, _+_, _%_, _≤_}
+use lib.ListN.{length}
+use Rattle.message.specs.Sizes.{header, endWord, largest}
+use Rattle.message.specs.Walk.{tagEnd}
+
+-- p is a place of the walk in a message of `size` bytes that m holds
+pub record Walking (m : List ℕ) (size p : ℕ) : Type 0 where
+  pub within : p ≤ size
+  pub lent : size ≤ length m
+  pub most : size ≤ largest
+  pub place4 : p % 4 ≡ 0
+  pub size4 : size % 4 ≡ 0
+
+-- a tag, or the end, may be written
+pub record TagFits (lent at size count next : ℕ) : Type 0 where
+  pub next-is : next ≡ tagEnd at size
+  pub holds : count ≤ size
+  pub within : next ≤ lent
+  pub most : next ≤ largest
+
+pub record EndFits (lent at size : ℕ) : Type 0 where
+  pub behind : at + endWord ≤ size
+  pub first : header ≤ at
+  pub within : size ≤ lent
+  pub most : size ≤ largest
