@@ -1,10 +1,11 @@
 //! The messages that are timed.
 
-/// A message, and how many tags it has.
+/// A message, how many tags it has, and the outcome that serving it has.
 pub struct Request {
     pub name: &'static str,
     pub tags: usize,
     pub bytes: Vec<u8>,
+    pub outcome: u32,
 }
 
 /// A finished message of these tags: size, code 0, the tags, the end word, zeros up to a multiple of 16.
@@ -16,7 +17,7 @@ fn request(name: &'static str, tags: impl Iterator<Item = Vec<u32>>) -> Request 
     words.resize(words.len().next_multiple_of(4), 0);
     words[0] = words.len() as u32 * 4;
     let bytes = words.iter().flat_map(|word| word.to_le_bytes()).collect();
-    Request { name, tags: count, bytes }
+    Request { name, tags: count, bytes, outcome: 0 }
 }
 
 /// Set rate of clocks 1 to 14 in turn, a different rate each time.
@@ -48,6 +49,17 @@ fn screen() -> Vec<Vec<u32>> {
     ]
 }
 
+fn mac() -> Vec<u32> {
+    vec![0x0001_0003, 8, 0, 0, 0]
+}
+
+/// The request of a MAC address with a code word that is not 0: refused with outcome 3.
+fn refused() -> Request {
+    let mut refused = request("a refusal", [mac()].into_iter());
+    refused.bytes[4] = 1;
+    Request { outcome: 3, ..refused }
+}
+
 pub fn all() -> Vec<Request> {
     vec![
         request("a screen's settings", screen().into_iter()),
@@ -55,5 +67,8 @@ pub fn all() -> Vec<Request> {
         request("firmware, no value", (0..5_460).map(|_| vec![0x0000_0001, 0, 0])),
         request("unknown, no value", (0..5_460).map(|_| vec![0x7fff_ffff, 0, 0])),
         request("mixed", (0..3_408).map(mixed)),
+        request("a MAC address alone", [mac()].into_iter()),
+        request("no tags", [].into_iter()),
+        refused(),
     ]
 }

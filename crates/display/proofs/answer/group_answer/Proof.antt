@@ -8,15 +8,8 @@ unfolding groupAnswer
 group-answer-spec =
     tie.close
     (tie.spec
-    (λ c. search needs)
-    (λ c κs. search needs)
-    (λ c. search needs)
-    (λ c κs. search needs)
-    (λ c. search needs)
-    (λ c κs. search needs)
-    (λ c. search needs)
-    (λ c. search needs)
-    (λ c. search needs)
+    (λ c. search needs) (λ c κs. search needs) (λ c. search needs) (λ c κs. search needs) (λ c. search needs) (λ c κs. search needs)
+    (λ c. search needs) (λ c. search needs) (λ c. search needs)
     (λ c. rw (c .before .before .tag .given .1) (c .setting-answer .ensures))
     (λ c. rw (c .before .before .tag2 .given .1) (c .setting-answer2 .ensures))
     (λ c. rw (c .before .before .tag3 .given .1) (c .setting-answer3 .ensures))

@@ -7,8 +7,6 @@ pub put-told-spec : {M : Type 1} → statement M
 put-told-spec =
     tie.close
     (tie.spec
-    (λ c κs. search needs)
-    (λ c κs. search needs)
-    (λ c. search needs)
+    (λ c κs. search needs) (λ c κs. search needs) (λ c. search needs)
     (λ c. search told-answered)
     (λ c. search told-left))

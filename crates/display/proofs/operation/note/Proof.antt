@@ -9,20 +9,10 @@ note-spec =
     tie.close
     (tie.spec
     -- get, test, set
-    (λ c. search needs)
-    (λ c κs. search needs)
-    (λ c. search needs)
-    (λ c κs. search needs)
-    (λ c. search needs)
-    (λ c κs. search needs)
+    (λ c. search needs) (λ c κs. search needs) (λ c. search needs) (λ c κs. search needs) (λ c. search needs) (λ c κs. search needs)
     (λ c κs. search needs)
     -- pitch, allocate, release
-    (λ c. search needs)
-    (λ c κs. search needs)
-    (λ c. search needs)
-    (λ c κs. search needs)
-    (λ c. search needs)
-    (λ c κs. search needs)
+    (λ c. search needs) (λ c κs. search needs) (λ c. search needs) (λ c κs. search needs) (λ c. search needs) (λ c κs. search needs)
     -- the operation in the same order
     (λ c. rw (c .before .enum-told .given .1, c .with-other .ensures))
     (λ c. rw (c .before .before .tag .given .1, c .with-setting .ensures))

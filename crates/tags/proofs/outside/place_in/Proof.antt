@@ -15,14 +15,8 @@ pub place-in-spec : {M : Type 1} → statement M
 place-in-spec =
     tie.close
     (tie.spec
-    (λ c. search needs)
-    (λ c. search needs)
-    (λ c κs. search needs)
-    (λ c. search needs)
-    (λ c κs. search needs)
-    (λ c. search needs)
-    (λ c κs. search needs)
-    (λ c. search needs)
+    (λ c. search needs) (λ c. search needs) (λ c κs. search needs) (λ c. search needs) (λ c κs. search needs) (λ c. search needs)
+    (λ c κs. search needs) (λ c. search needs)
     (λ c. of-tag (c .enum-told .given .1) (record { is = refl; within = omega arith }))
     (λ c. let p = c .device-place .ensures in of-tag (c .before .enum-told2 .given .1) (record { is = p .is; within = p .within }))
     (λ c. let p = c .clock-place .ensures in of-tag (c .before .enum-told3 .given .1) (record { is = p .is; within = p .within }))
