@@ -53,7 +53,8 @@ showing s d = record { answered = true; shown = s; pitch = pitch s; placed = now
 
 -- the group is left alone: no tag of it is answered, and nothing changes
 abbrev pub leftAlone : Display → Decision
-leftAlone d = record { answered = false; shown = d .settings; pitch = pitch (d .settings); placed = nowhere; display = d }
+leftAlone d =
+    record { answered = false; shown = d .settings; pitch = pitch (d .settings); placed = nowhere; display = d }
 
 -- tests only: each answers the proposal where it is supported, and the current value where not; nothing changes
 abbrev pub tested : (isSupported : Bool) → Display → Operation → Decision

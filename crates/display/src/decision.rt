@@ -11,7 +11,8 @@ ghost use mathlib.Core.Path.{_≡_};
 ghost use Rattle.words.specs.Round.{roundUp};
 ghost use Rattle.board.specs.Display.{possible, supported};
 ghost use Rattle.board.specs.Valid.{validDisplay};
-ghost use Rattle.display.specs.Decision.{nowhere, oneBit, placedAt, allocatable, fitsBuffer, accepted, showing, leftAlone, tested, carriedOut, decided};
+ghost use Rattle.display.specs.Decision.{nowhere, oneBit, placedAt, allocatable, fitsBuffer, accepted};
+ghost use Rattle.display.specs.Decision.{showing, leftAlone, tested, carriedOut, decided};
 
 // Whether the group's tags are answered, the settings, the pitch and the buffer that they answer,
 // and the display afterwards.

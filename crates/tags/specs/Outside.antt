@@ -19,9 +19,12 @@ use Rattle.tags.specs.Voltage.{voltagePlace, voltageAfter, voltageValue}
 -- each answers the id and one value of the item that it left
 unfoldable pub outsideAnswer : OutsideTag → (a x : ℕ) → Board → Answer
 outsideAnswer (OutsideTag.Fact t) a x b = factAnswer t (b .facts)
-outsideAnswer (OutsideTag.Power t) a x b = Answer.Pair a (powerValue t (powerAfter t x (item noDevice (b .devices) (devicePlace a))))
-outsideAnswer (OutsideTag.Clock t) a x b = Answer.Pair a (clockValue t (clockAfter t x (item noClock (b .clocks) (clockPlace a))))
-outsideAnswer (OutsideTag.Voltage t) a x b = Answer.Pair a (voltageValue t (voltageAfter t x (item noVoltage (b .voltages) (voltagePlace a))))
+outsideAnswer (OutsideTag.Power t) a x b =
+    Answer.Pair a (powerValue t (powerAfter t x (item noDevice (b .devices) (devicePlace a))))
+outsideAnswer (OutsideTag.Clock t) a x b =
+    Answer.Pair a (clockValue t (clockAfter t x (item noClock (b .clocks) (clockPlace a))))
+outsideAnswer (OutsideTag.Voltage t) a x b =
+    Answer.Pair a (voltageValue t (voltageAfter t x (item noVoltage (b .voltages) (voltagePlace a))))
 outsideAnswer (OutsideTag.Temperature t) a x b = Answer.Pair a (temperatureValue t a (b .temperature))
 
 abbrev pub withDevices : Board → List Device → Board
@@ -41,5 +44,6 @@ unfoldable pub outsideAfter : OutsideTag → (a x : ℕ) → Board → Board
 outsideAfter (OutsideTag.Fact t) a x b = b
 outsideAfter (OutsideTag.Power t) a x b = withDevices b (change noDevice (powerAfter t x) (b .devices) (devicePlace a))
 outsideAfter (OutsideTag.Clock t) a x b = withClocks b (change noClock (clockAfter t x) (b .clocks) (clockPlace a))
-outsideAfter (OutsideTag.Voltage t) a x b = withVoltages b (change noVoltage (voltageAfter t x) (b .voltages) (voltagePlace a))
+outsideAfter (OutsideTag.Voltage t) a x b =
+    withVoltages b (change noVoltage (voltageAfter t x) (b .voltages) (voltagePlace a))
 outsideAfter (OutsideTag.Temperature t) a x b = b
