@@ -3,4 +3,4 @@ pub mod Decision
 pub mod Kept
 pub mod Lengths
 pub mod Operation
-pub mod Told
+pub mod GroupPut

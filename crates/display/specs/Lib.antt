@@ -1,3 +1,3 @@
 pub mod Operation
 pub mod Decision
-pub mod Told
+pub mod GroupPut

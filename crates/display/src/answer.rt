@@ -10,7 +10,7 @@ ghost use mathlib.Core.Path.{_≡_};
 ghost use lib.ListN.{length};
 ghost use Rattle.answers.specs.Helpers.{AnswerFits};
 ghost use Rattle.display.specs.Decision.{settingAnswer, groupAnswer};
-ghost use Rattle.display.specs.Told.{told};
+ghost use Rattle.display.specs.GroupPut.{groupPut};
 
 fn setting_answer(s: Settings, setting: Setting) -> Answer
     ensures { λ r. ⌜ r ≡ settingAnswer setting s ⌝ }
@@ -41,7 +41,7 @@ fn group_answer(d: Decision, tag: FrameTag) -> Answer
 
 // Answers the tag of the group at `at`, whose value has `size` bytes, where the decision says so. No
 // entry point: the walk above has found the tag in the message.
-pub fn put_told(
+pub fn put_group(
     msg: &mut [u8],
     at: usize,
     size: u32,
@@ -51,7 +51,7 @@ pub fn put_told(
     line: &[u8],
 )
     requires { ⌜ AnswerFits (length (now msg)) at size (length (now line)) ⌝ }
-    ensures { λ _. ⌜ now (msg .exit) ≡ told d tag at size facts (now (line .entry)) (now (msg .entry)) ⌝ }
+    ensures { λ _. ⌜ now (msg .exit) ≡ groupPut d tag at size facts (now (line .entry)) (now (msg .entry)) ⌝ }
 {
     if d.answered {
         put_answer(msg, at, size, group_answer(d, tag), facts, line);

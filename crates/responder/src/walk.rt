@@ -3,7 +3,7 @@
 use answers::reply::put_answer;
 use answers::reply::put_pair;
 use board::record::Board;
-use display::answer::put_told;
+use display::answer::put_group;
 use display::decision::Decision;
 use display::operation::Operation;
 use display::operation::note;
@@ -84,7 +84,7 @@ pub fn serve_tags(board: Board, msg: &mut [u8], size: usize, group: Decision) ->
             Ask::Short => return tags_served(short_at(p), operation, b),
             Ask::Group(kind, a, x) => {
                 operation = note(operation, kind, a, x);
-                put_told(msg, tag.at, tag.size, group, kind, b.facts, &b.line);
+                put_group(msg, tag.at, tag.size, group, kind, b.facts, &b.line);
             }
             Ask::Outside(family, a, x) => {
                 let place = place_in(family, a);

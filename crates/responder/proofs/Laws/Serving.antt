@@ -31,7 +31,7 @@ use Rattle.tags.proofs.Laws.Served.{Serves}
 use Rattle.tags.specs.Outside.{outsideAnswer, outsideAfter}
 use Rattle.display.specs.Decision.{groupAnswer}
 use Rattle.display.specs.Operation.{unasked, noted}
-use Rattle.display.specs.Told.{told}
+use Rattle.display.specs.GroupPut.{groupPut}
 use Rattle.display.specs.declared.decision.Decision.{Decision}
 use Rattle.display.specs.declared.operation.Operation.{Operation}
 use Rattle.requests.proofs.Laws.Trails.{trail-stop, trail-tag, request-same, cut-on, in-message}
@@ -167,7 +167,7 @@ module _ (g : Decision) (m₀ : List ℕ) (size : ℕ) (b₀ : Board) (m : List 
       pub serve-pass : q ≡ Ask.Pass → Ahead g m₀ size b₀ m b o next
       serve-pass e = serve-on (comes-pass g b o (requestOf m₀ t) (sym e ∙ asked₀)) refl refl refl
 
-      pub serve-group : {k : FrameTag} {a x : ℕ} → q ≡ Ask.Group k a x → {o′ : Operation} → o′ ≡ noted k a x o → {m′ : List ℕ} → m′ ≡ told g k (t .at) (t .size) (b .facts) (b .line) m
+      pub serve-group : {k : FrameTag} {a x : ℕ} → q ≡ Ask.Group k a x → {o′ : Operation} → o′ ≡ noted k a x o → {m′ : List ℕ} → m′ ≡ groupPut g k (t .at) (t .size) (b .facts) (b .line) m
           → Ahead g m₀ size b₀ m′ b o′ next
       serve-group {k} e eo em =
           let answer = answerBytes (b .facts) (b .line) (groupAnswer g k) in

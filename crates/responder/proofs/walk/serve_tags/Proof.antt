@@ -76,8 +76,8 @@ enum-known-ask c = search needs
 note-requires : tie.Need-note-requires Inv-loop μ-loop
 note-requires c κs = search needs
 
-put-told-requires : tie.Need-put-told-requires Inv-loop μ-loop
-put-told-requires c κs = search serve-fits
+put-group-requires : tie.Need-put-group-requires Inv-loop μ-loop
+put-group-requires c κs = search serve-fits
 
 enum-known-ask-2 : tie.Need-enum-known-ask-2 Inv-loop μ-loop
 enum-known-ask-2 c = search needs
@@ -220,7 +220,7 @@ loop-again-3 c =
     let at-tag = at-ask .before .before .before in
     let at-step = at-tag .before .before in
     serve-group _ _ _ _ _ _ _ _ (at-step .before .before .loop .inv) (at-step .step-at .ensures) (at-tag .st .given .1) (at-ask .ask-at .ensures)
-    (c .before .before .before .before .before .before .before .before .before .before .ask .given .1) (c .before .before .before .before .before .before .before .before .note .ensures) (c .before .before .put-told .ensures)
+    (c .before .before .before .before .before .before .before .before .before .before .ask .given .1) (c .before .before .before .before .before .before .before .before .note .ensures) (c .before .before .put-group .ensures)
 
 loop-less-4 : tie.Need-loop-less-4 Inv-loop μ-loop
 loop-less-4 c =
@@ -315,7 +315,7 @@ serve-tags-spec =
     returns-2
     enum-known-ask
     note-requires
-    put-told-requires
+    put-group-requires
     enum-known-ask-2
     place-in-requires
     enum-known-place

@@ -9,5 +9,5 @@ use Rattle.answers.specs.Reply.{answered}
 use Rattle.display.specs.Decision.{groupAnswer}
 use Rattle.display.specs.declared.decision.Decision.{Decision}
 
-abbrev pub told : Decision → FrameTag → (at size : ℕ) → Facts → (line m : List ℕ) → List ℕ
-told d t at size f line m = cond (d .answered) (answered at size (answerBytes f line (groupAnswer d t)) m) m
+abbrev pub groupPut : Decision → FrameTag → (at size : ℕ) → Facts → (line m : List ℕ) → List ℕ
+groupPut d t at size f line m = cond (d .answered) (answered at size (answerBytes f line (groupAnswer d t)) m) m

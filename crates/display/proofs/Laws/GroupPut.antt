@@ -9,14 +9,14 @@ use Rattle.answers.specs.Answer.{answerBytes}
 use Rattle.answers.specs.Reply.{answered}
 use Rattle.answers.specs.declared.answer.Answer.{Answer}
 use Rattle.display.specs.Decision.{groupAnswer}
-use Rattle.display.specs.Told.{told}
+use Rattle.display.specs.GroupPut.{groupPut}
 use Rattle.display.specs.declared.decision.Decision.{Decision}
 
 module _ (d : Decision) (t : FrameTag) (at size : ℕ) (f : Facts) (line m : List ℕ) where
-  pub told-answered : d .answered ≡ true → {x : Answer} → x ≡ groupAnswer d t → {m′ : List ℕ} → m′ ≡ answered at size (answerBytes f line x) m → m′ ≡ told d t at size f line m
-  told-answered y ex e =
+  pub group-put-answered : d .answered ≡ true → {x : Answer} → x ≡ groupAnswer d t → {m′ : List ℕ} → m′ ≡ answered at size (answerBytes f line x) m → m′ ≡ groupPut d t at size f line m
+  group-put-answered y ex e =
       e ∙ ap (λ (a : Answer). answered at size (answerBytes f line a) m) ex
       ∙ ap (λ (b : Bool). cond b (answered at size (answerBytes f line (groupAnswer d t)) m) m) (sym y)
 
-  pub told-left : d .answered ≡ false → m ≡ told d t at size f line m
-  told-left n = ap (λ (b : Bool). cond b (answered at size (answerBytes f line (groupAnswer d t)) m) m) (sym n)
+  pub group-put-left : d .answered ≡ false → m ≡ groupPut d t at size f line m
+  group-put-left n = ap (λ (b : Bool). cond b (answered at size (answerBytes f line (groupAnswer d t)) m) m) (sym n)
