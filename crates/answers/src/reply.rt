@@ -10,6 +10,7 @@ use words::numbers::put_u32;
 ghost use mathlib.Core.List.{_++_};
 ghost use mathlib.Core.Path.{_≡_};
 ghost use Rattle.words.specs.Numbers.{le};
+ghost use Rattle.message.specs.Helpers.{InMessage};
 ghost use Rattle.answers.specs.Answer.{answerBytes};
 ghost use Rattle.answers.specs.Helpers.{AnswerFits};
 ghost use Rattle.answers.specs.Reply.{answered};
@@ -28,9 +29,9 @@ pub fn put_answer(msg: &mut [u8], at: usize, size: u32, answer: Answer, facts: F
     store_answer(&mut msg[value..end], answer, facts, line);
 }
 
-// Answers the tag with two words.
+// Answers the tag with two words. No entry point: the walk above has found the tag in the message.
 pub fn put_pair(msg: &mut [u8], at: usize, size: u32, a: u32, b: u32)
-    requires { ⌜ AnswerFits (length (now msg)) at size 0 ⌝ }
+    requires { ⌜ InMessage (length (now msg)) at size ⌝ }
     ensures { λ _. ⌜ now (msg .exit) ≡ answered at size (le 4 a ++ le 4 b) (now (msg .entry)) ⌝ }
 {
     put_u32(msg, at + Tag::WORD, 0x8000_0008);

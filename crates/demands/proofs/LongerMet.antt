@@ -14,7 +14,7 @@ use Rattle.message.specs.declared.walk.Tag.{Tag}
 use Rattle.board.specs.Bench.{bench}
 use Rattle.board.specs.Display.{pitch, need, sides, depths, offsets, possible, supported}
 use Rattle.board.specs.Valid.{validFacts, validState, validDevice, validClock, validVoltage, validBuffer, validDisplay, valid}
-use Rattle.table.specs.Table.{fact, outsideTags, groupTags, table, rowOf}
+use Rattle.table.specs.Table.{factKind, outsideTags, groupTags, table, rowOf}
 use Rattle.table.specs.declared.kinds.FactTag.{FactTag}
 use Rattle.table.specs.declared.kinds.FrameTag.{FrameTag}
 use Rattle.table.specs.declared.kinds.Kind.{Kind}
@@ -75,7 +75,7 @@ alike = (
   refl,
   refl,
   lit≤ tt,
-  known short long (tag 8 0x00010003 4) (tag 8 0x00010003 8) (fact FactTag.Mac) 0 refl refl,
+  known short long (tag 8 0x00010003 4) (tag 8 0x00010003 8) (factKind FactTag.Mac) 0 refl refl,
   (
     refl,
     refl,

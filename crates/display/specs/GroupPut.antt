@@ -1,4 +1,4 @@
--- Describes code: a tag of the group into which its answer is written, unless the group is left alone.
+-- Describes code: the message after `put_group`.
 use mathlib.Core.Bool.{cond}
 use mathlib.Core.List.{List}
 use Prim.Native.Nat.{ℕ}

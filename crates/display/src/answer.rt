@@ -39,8 +39,9 @@ fn group_answer(d: Decision, tag: FrameTag) -> Answer
     }
 }
 
-// Answers the tag of the group at `at`, whose value has `size` bytes, where the decision says so. No
-// entry point: the walk above has found the tag in the message.
+// Answers the tag of the group at `at`, whose value has `size` bytes, where the decision says so. Facts
+// and command line are what `put_answer` asks for: no answer of the group is taken from them. No entry
+// point: the walk above has found the tag in the message.
 pub fn put_group(
     msg: &mut [u8],
     at: usize,

@@ -184,5 +184,6 @@ pub fn decide(d: Display, o: Operation) -> Decision
         }
         return show(d.settings, d);
     }
+    // Without a group tag there is nothing to decide.
     leave(d)
 }

@@ -1,8 +1,6 @@
 -- Describes code: a request as `ask_at` gives it, and what the functions of this crate ask of their callers.
 use mathlib.Core.Path.{_≡_}
 use Prim.Native.Nat.{ℕ, _+_, _%_, _≤_}
-use Rattle.message.specs.Sizes.{tagHeader, largest}
-use Rattle.message.specs.declared.walk.Tag.{Tag}
 use Rattle.table.specs.declared.kinds.Kind.{Kind}
 use Rattle.requests.specs.Requests.{Request, passed, short, asks, first, second}
 use Rattle.requests.specs.declared.ask.Ask.{Ask}
@@ -13,11 +11,7 @@ askOf short = Ask.Short
 askOf (asks (Kind.Outside t) bytes) = Ask.Outside t (first bytes) (second bytes)
 askOf (asks (Kind.Group t) bytes) = Ask.Group t (first bytes) (second bytes)
 
--- the tag lies in the message
-pub record InMessage (lent : ℕ) (t : Tag) : Type 0 where
-  pub within : t .at + tagHeader + t .size ≤ lent
-  pub place : t .at ≤ largest
-
+-- `at` is a place of a word in a request of `count` bytes, or behind it
 pub record RequestFits (lent value count at : ℕ) : Type 0 where
   pub within : value + count ≤ lent
   pub fours : count % 4 ≡ 0

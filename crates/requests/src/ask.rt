@@ -10,7 +10,8 @@ use words::numbers::u32_at;
 ghost use mathlib.Core.Path.{_≡_};
 ghost use lib.ListN.{length, take, drop};
 ghost use Rattle.words.specs.Numbers.{word};
-ghost use Rattle.requests.specs.Ask.{InMessage, RequestFits, askOf};
+ghost use Rattle.message.specs.Helpers.{InMessage};
+ghost use Rattle.requests.specs.Ask.{RequestFits, askOf};
 ghost use Rattle.requests.specs.Requests.{requestOf};
 
 // What a tag asks, with the first two words of its request: outside the frame buffer group or of it.
@@ -34,7 +35,7 @@ fn word_of(msg: &[u8], value: usize, count: usize, at: usize) -> u32
 
 // What the tag asks. No entry point: the walk has found the tag in the message.
 pub fn ask_at(msg: &[u8], tag: Tag) -> Ask
-    requires { ⌜ InMessage (length (now msg)) tag ⌝ }
+    requires { ⌜ InMessage (length (now msg)) (tag .at) (tag .size) ⌝ }
     ensures { λ r. ⌜ r ≡ askOf (requestOf (now (msg .entry)) tag) ⌝ }
 {
     if tag.word >= 0x8000_0000 {
@@ -51,7 +52,7 @@ pub fn ask_at(msg: &[u8], tag: Tag) -> Ask
     let a = word_of(msg, value, count, 0);
     let x = word_of(msg, value, count, 4);
     match kind {
-        Kind::Outside(family) => Ask::Outside(family, a, x),
+        Kind::Outside(outside) => Ask::Outside(outside, a, x),
         Kind::Group(frame) => Ask::Group(frame, a, x),
     }
 }

@@ -31,6 +31,10 @@ writeAll [] ss m = m
 writeAll (t ∷ ts) [] m = m
 writeAll (t ∷ ts) (s ∷ ss) m = writeAll ts ss (written t s m)
 
+-- every tag of a message with what it says
+abbrev pub trailWritten : Decision → Board → Trail → List ℕ → List ℕ
+trailWritten g b tr m = writeAll (tr .tags) (answers g b (tr .requests)) m
+
 -- the code word: 0x80000000 where all was done, 0x80000001 after a fault
 abbrev pub codeOf : (outcome : ℕ) → ℕ
 codeOf outcome = cond (eqb outcome done) 0x8000_0000 0x8000_0001
@@ -50,7 +54,7 @@ refused outcome b m = leaves m (record { outcome = outcome; place = 0; board = b
 -- a message that is walked: its tags are carried out up to its end or its first fault
 abbrev pub servedBy : Trail → Decision → Board → List ℕ → Call Served
 servedBy tr g b m =
-    leaves (coded (tr .ending .outcome) (writeAll (tr .tags) (answers g b (tr .requests)) m))
+    leaves (coded (tr .ending .outcome) (trailWritten g b tr m))
     (record { outcome = tr .ending .outcome; place = tr .ending .place; board = withDisplay (after b (tr .requests)) (g .display) })
 
 unfoldable pub served : Board → List ℕ → (size : ℕ) → Call Served

@@ -9,17 +9,14 @@ use Rattle.display.specs.Operation.{unasked}
 use Rattle.display.specs.declared.decision.Decision.{Decision}
 use Rattle.display.specs.declared.operation.Operation.{Operation}
 use Rattle.requests.specs.Requests.{Trail, trail}
-use Rattle.responder.specs.Answers.{operation, answers, after}
-use Rattle.responder.specs.Reply.{writeAll}
+use Rattle.responder.specs.Answers.{operation, after}
+use Rattle.responder.specs.Reply.{trailWritten}
 use Rattle.responder.specs.declared.walk.TagsServed.{TagsServed}
 
-abbrev pub bytesOf : Decision → Board → Trail → List ℕ → List ℕ
-bytesOf g b tr m = writeAll (tr .tags) (answers g b (tr .requests)) m
-
--- a trail served on a record, with the group decided as g, from an operation on
+-- a trail served on a record, with the group decided as g, starting from the operation o
 abbrev pub trailServed : Decision → Board → Operation → Trail → List ℕ → Call TagsServed
 trailServed g b o tr m =
-    leaves (bytesOf g b tr m)
+    leaves (trailWritten g b tr m)
     (record { ending = tr .ending; operation = operation o (tr .requests); board = after b (tr .requests) })
 
 abbrev pub tagsServed : Decision → Board → List ℕ → (size : ℕ) → Call TagsServed
@@ -27,4 +24,4 @@ tagsServed g b m size = trailServed g b (unasked (b .display .settings)) (trail 
 
 -- the message after the second walk, which is not taken where the group is left alone
 abbrev pub groupServed : Decision → Board → List ℕ → (size : ℕ) → List ℕ
-groupServed g b m size = cond (g .answered) (bytesOf g b (trail m size header) m) m
+groupServed g b m size = cond (g .answered) (trailWritten g b (trail m size header) m) m

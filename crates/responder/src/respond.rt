@@ -53,8 +53,8 @@ fn group_of(d: Display, outcome: u32, o: Operation) -> Decision
     leave(d)
 }
 
-// Answers the group's tags in a second walk, where the decision says so. The others are answered
-// already, and passed over.
+// Answers the group's tags in a second walk, where the decision says so. The others carry bit 31 by
+// then and are passed over.
 fn answer_group(board: Board, msg: &mut [u8], size: usize, group: Decision)
     requires { ⌜ Walking (now msg) size header ⌝ }
     ensures { λ _. ⌜ now (msg .exit) ≡ groupServed group board (now (msg .entry)) size ⌝ }
@@ -80,14 +80,15 @@ fn serve_opened(board: Board, msg: &mut [u8], size: usize) -> Served
     ensures { λ r. ⌜ leaves (now (msg .exit)) r ≡ served board (now (msg .entry)) size ⌝ }
 {
     let display = board.display;
+    // The first walk leaves the group alone and notes what it asks.
     let first = serve_tags(board, msg, size, leave(display));
     let ending = first.ending;
     let group = group_of(display, ending.outcome, first.operation);
     answer_group(first.board, msg, size, group);
     put_u32(msg, Message::CODE, code_of(ending.outcome));
     let mut after = first.board;
-    let shown = group.display;
-    after.display = shown;
+    let left = group.display;
+    after.display = left;
     Served {
         outcome: ending.outcome,
         place: ending.place,

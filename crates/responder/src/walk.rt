@@ -21,7 +21,7 @@ use tags::clock::clock_after;
 use tags::clock::clock_value;
 use tags::fact::answer_fact;
 use tags::outside::absent_value;
-use tags::outside::place_in;
+use tags::outside::item_place;
 use tags::place::Place;
 use tags::power::power_after;
 use tags::power::power_value;
@@ -42,6 +42,7 @@ pub struct TagsServed {
     pub board: Board,
 }
 
+// The same in a line, for the walk below.
 fn tags_served(ending: Ending, operation: Operation, board: Board) -> TagsServed
     ensures { λ r. ⌜ r ≡ record { ending = ending; operation = operation; board = board } ⌝ }
 {
@@ -62,9 +63,9 @@ fn short_at(p: usize) -> Ending
     }
 }
 
-// Serves the tags of a message of `size` bytes in order, up to its end or its first fault: those
-// outside the group on the record, those of the group as the decision says; the group's are noted.
-// No entry point: the message has been opened.
+// Serves the tags of a message of `size` bytes in order, up to its end or its first fault. Tags outside
+// the group are served on the record; those of the group are noted, and answered where the decision
+// says so. No entry point: the message has been opened.
 pub fn serve_tags(board: Board, msg: &mut [u8], size: usize, group: Decision) -> TagsServed
     requires { ⌜ Walking (now msg) size header ⌝ }
     ensures { λ r. ⌜ leaves (now (msg .exit)) r ≡ tagsServed group board (now (msg .entry)) size ⌝ }
@@ -82,39 +83,40 @@ pub fn serve_tags(board: Board, msg: &mut [u8], size: usize, group: Decision) ->
         match ask {
             Ask::Pass => {}
             Ask::Short => return tags_served(short_at(p), operation, b),
-            Ask::Group(kind, a, x) => {
-                operation = note(operation, kind, a, x);
-                put_group(msg, tag.at, tag.size, group, kind, b.facts, &b.line);
+            Ask::Group(frame, a, x) => {
+                operation = note(operation, frame, a, x);
+                put_group(msg, tag.at, tag.size, group, frame, b.facts, &b.line);
             }
-            Ask::Outside(family, a, x) => {
-                let place = place_in(family, a);
+            Ask::Outside(outside, a, x) => {
+                let place = item_place(outside, a);
                 let Place::At(i) = place else {
-                    put_pair(msg, tag.at, tag.size, a, absent_value(family));
+                    // No item has this id: the answer of an absent one, and nothing changes.
+                    put_pair(msg, tag.at, tag.size, a, absent_value(outside));
                     p = next;
                     continue;
                 };
-                match family {
-                    OutsideTag::Fact(kind) => {
-                        let answer = answer_fact(b.facts, kind);
+                match outside {
+                    OutsideTag::Fact(fact) => {
+                        let answer = answer_fact(b.facts, fact);
                         put_answer(msg, tag.at, tag.size, answer, b.facts, &b.line);
                     }
-                    OutsideTag::Power(kind) => {
-                        let d = power_after(b.devices[i], kind, x);
+                    OutsideTag::Power(power) => {
+                        let d = power_after(b.devices[i], power, x);
                         b.devices[i] = d;
-                        put_pair(msg, tag.at, tag.size, a, power_value(d, kind));
+                        put_pair(msg, tag.at, tag.size, a, power_value(d, power));
                     }
-                    OutsideTag::Clock(kind) => {
-                        let c = clock_after(b.clocks[i], kind, x);
+                    OutsideTag::Clock(clock) => {
+                        let c = clock_after(b.clocks[i], clock, x);
                         b.clocks[i] = c;
-                        put_pair(msg, tag.at, tag.size, a, clock_value(c, kind));
+                        put_pair(msg, tag.at, tag.size, a, clock_value(c, clock));
                     }
-                    OutsideTag::Voltage(kind) => {
-                        let v = voltage_after(b.voltages[i], kind, x);
+                    OutsideTag::Voltage(voltage) => {
+                        let v = voltage_after(b.voltages[i], voltage, x);
                         b.voltages[i] = v;
-                        put_pair(msg, tag.at, tag.size, a, voltage_value(v, kind));
+                        put_pair(msg, tag.at, tag.size, a, voltage_value(v, voltage));
                     }
-                    OutsideTag::Temperature(kind) => {
-                        let n = temperature_value(b.temperature, kind, a);
+                    OutsideTag::Temperature(temperature) => {
+                        let n = temperature_value(b.temperature, temperature, a);
                         put_pair(msg, tag.at, tag.size, a, n);
                     }
                 }

@@ -25,53 +25,53 @@ abbrev pub entry : (id request answer : ℕ) → Kind → Entry
 entry id request answer kind = record { id = id; request = request; answer = answer; kind = kind }
 
 -- the families outside the frame buffer group
-abbrev pub fact : FactTag → Kind
-fact t = Kind.Outside (OutsideTag.Fact t)
+abbrev pub factKind : FactTag → Kind
+factKind t = Kind.Outside (OutsideTag.Fact t)
 
-abbrev pub power : PowerTag → Kind
-power t = Kind.Outside (OutsideTag.Power t)
+abbrev pub powerKind : PowerTag → Kind
+powerKind t = Kind.Outside (OutsideTag.Power t)
 
-abbrev pub clock : ClockTag → Kind
-clock t = Kind.Outside (OutsideTag.Clock t)
+abbrev pub clockKind : ClockTag → Kind
+clockKind t = Kind.Outside (OutsideTag.Clock t)
 
-abbrev pub voltage : VoltageTag → Kind
-voltage t = Kind.Outside (OutsideTag.Voltage t)
+abbrev pub voltageKind : VoltageTag → Kind
+voltageKind t = Kind.Outside (OutsideTag.Voltage t)
 
-abbrev pub temperature : TemperatureTag → Kind
-temperature t = Kind.Outside (OutsideTag.Temperature t)
+abbrev pub temperatureKind : TemperatureTag → Kind
+temperatureKind t = Kind.Outside (OutsideTag.Temperature t)
 
 -- The command line's answer has its own length, 256 at most.
 unfoldable pub outsideTags : List Entry
 outsideTags =
     -- fixed facts
-    entry 0x0000_0001 0 4 (fact FactTag.Firmware)
-    ∷ entry 0x0001_0001 0 4 (fact FactTag.Model)
-    ∷ entry 0x0001_0002 0 4 (fact FactTag.Revision)
-    ∷ entry 0x0001_0003 0 6 (fact FactTag.Mac)
-    ∷ entry 0x0001_0004 0 8 (fact FactTag.Serial)
-    ∷ entry 0x0001_0005 0 8 (fact FactTag.Arm)
-    ∷ entry 0x0001_0006 0 8 (fact FactTag.Vc)
-    ∷ entry 0x0005_0001 0 256 (fact FactTag.Line)
-    ∷ entry 0x0006_0001 0 4 (fact FactTag.Dma)
+    entry 0x0000_0001 0 4 (factKind FactTag.Firmware)
+    ∷ entry 0x0001_0001 0 4 (factKind FactTag.Model)
+    ∷ entry 0x0001_0002 0 4 (factKind FactTag.Revision)
+    ∷ entry 0x0001_0003 0 6 (factKind FactTag.Mac)
+    ∷ entry 0x0001_0004 0 8 (factKind FactTag.Serial)
+    ∷ entry 0x0001_0005 0 8 (factKind FactTag.Arm)
+    ∷ entry 0x0001_0006 0 8 (factKind FactTag.Vc)
+    ∷ entry 0x0005_0001 0 256 (factKind FactTag.Line)
+    ∷ entry 0x0006_0001 0 4 (factKind FactTag.Dma)
     -- power
-    ∷ entry 0x0002_0001 4 8 (power PowerTag.State)
-    ∷ entry 0x0002_0002 4 8 (power PowerTag.Timing)
-    ∷ entry 0x0002_8001 8 8 (power PowerTag.SetState)
+    ∷ entry 0x0002_0001 4 8 (powerKind PowerTag.State)
+    ∷ entry 0x0002_0002 4 8 (powerKind PowerTag.Timing)
+    ∷ entry 0x0002_8001 8 8 (powerKind PowerTag.SetState)
     -- clocks
-    ∷ entry 0x0003_0001 4 8 (clock ClockTag.State)
-    ∷ entry 0x0003_8001 8 8 (clock ClockTag.SetState)
-    ∷ entry 0x0003_0002 4 8 (clock ClockTag.Rate)
-    ∷ entry 0x0003_0004 4 8 (clock ClockTag.Max)
-    ∷ entry 0x0003_0007 4 8 (clock ClockTag.Min)
-    ∷ entry 0x0003_8002 8 8 (clock ClockTag.SetRate)
+    ∷ entry 0x0003_0001 4 8 (clockKind ClockTag.State)
+    ∷ entry 0x0003_8001 8 8 (clockKind ClockTag.SetState)
+    ∷ entry 0x0003_0002 4 8 (clockKind ClockTag.Rate)
+    ∷ entry 0x0003_0004 4 8 (clockKind ClockTag.Max)
+    ∷ entry 0x0003_0007 4 8 (clockKind ClockTag.Min)
+    ∷ entry 0x0003_8002 8 8 (clockKind ClockTag.SetRate)
     -- voltage
-    ∷ entry 0x0003_0003 4 8 (voltage VoltageTag.Get)
-    ∷ entry 0x0003_8003 8 8 (voltage VoltageTag.Set)
-    ∷ entry 0x0003_0005 4 8 (voltage VoltageTag.Max)
-    ∷ entry 0x0003_0008 4 8 (voltage VoltageTag.Min)
+    ∷ entry 0x0003_0003 4 8 (voltageKind VoltageTag.Get)
+    ∷ entry 0x0003_8003 8 8 (voltageKind VoltageTag.Set)
+    ∷ entry 0x0003_0005 4 8 (voltageKind VoltageTag.Max)
+    ∷ entry 0x0003_0008 4 8 (voltageKind VoltageTag.Min)
     -- temperature
-    ∷ entry 0x0003_0006 4 8 (temperature TemperatureTag.Current)
-    ∷ entry 0x0003_000a 4 8 (temperature TemperatureTag.Max)
+    ∷ entry 0x0003_0006 4 8 (temperatureKind TemperatureTag.Current)
+    ∷ entry 0x0003_000a 4 8 (temperatureKind TemperatureTag.Max)
     ∷ []
 
 -- the frame buffer group: get, test and set of each setting, then pitch, allocate, release

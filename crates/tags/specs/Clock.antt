@@ -7,8 +7,11 @@ use Rattle.tags.specs.Place.{placeOf}
 use Rattle.tags.specs.State.{stateOf, present, switched}
 use Rattle.tags.specs.declared.place.Place.{Place}
 
+abbrev pub clockCount : ℕ
+clockCount = 14
+
 abbrev pub clockPlace : (id : ℕ) → Place
-clockPlace id = placeOf id 1 14
+clockPlace id = placeOf id 1 clockCount
 
 -- a number clamped to a minimum and a maximum
 abbrev pub clamp : (low high x : ℕ) → ℕ

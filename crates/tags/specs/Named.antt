@@ -3,10 +3,10 @@ use mathlib.Core.Path.{_≡_}
 use Prim.Native.Nat.{ℕ, _<_}
 use Rattle.board.specs.Items.{noDevice, noClock, noVoltage}
 use Rattle.table.specs.declared.kinds.OutsideTag.{OutsideTag}
-use Rattle.tags.specs.Clock.{clockPlace, clockValue}
+use Rattle.tags.specs.Clock.{clockCount, clockPlace, clockValue}
 use Rattle.tags.specs.Place.{placeOf}
-use Rattle.tags.specs.Power.{devicePlace, powerValue}
-use Rattle.tags.specs.Voltage.{voltagePlace, voltageValue}
+use Rattle.tags.specs.Power.{deviceCount, devicePlace, powerValue}
+use Rattle.tags.specs.Voltage.{voltageCount, voltagePlace, voltageValue}
 use Rattle.tags.specs.declared.place.Place.{Place}
 
 -- a place is within the items
@@ -18,23 +18,23 @@ pub record Placed (id first count : ℕ) (r : Place) : Type 0 where
   pub is : r ≡ placeOf id first count
   pub within : Within count r
 
-abbrev pub placeIn : OutsideTag → (id : ℕ) → Place
-placeIn (OutsideTag.Fact t) id = Place.At 0
-placeIn (OutsideTag.Power t) id = devicePlace id
-placeIn (OutsideTag.Clock t) id = clockPlace id
-placeIn (OutsideTag.Voltage t) id = voltagePlace id
-placeIn (OutsideTag.Temperature t) id = Place.At 0
+abbrev pub itemPlace : OutsideTag → (id : ℕ) → Place
+itemPlace (OutsideTag.Fact t) id = Place.At 0
+itemPlace (OutsideTag.Power t) id = devicePlace id
+itemPlace (OutsideTag.Clock t) id = clockPlace id
+itemPlace (OutsideTag.Voltage t) id = voltagePlace id
+itemPlace (OutsideTag.Temperature t) id = Place.At 0
 
 -- how many items a family has
 abbrev pub itemCount : OutsideTag → ℕ
 itemCount (OutsideTag.Fact t) = 1
-itemCount (OutsideTag.Power t) = 11
-itemCount (OutsideTag.Clock t) = 14
-itemCount (OutsideTag.Voltage t) = 4
+itemCount (OutsideTag.Power t) = deviceCount
+itemCount (OutsideTag.Clock t) = clockCount
+itemCount (OutsideTag.Voltage t) = voltageCount
 itemCount (OutsideTag.Temperature t) = 1
 
 pub record Named (k : OutsideTag) (id : ℕ) (r : Place) : Type 0 where
-  pub is : r ≡ placeIn k id
+  pub is : r ≡ itemPlace k id
   pub within : Within (itemCount k) r
 
 abbrev pub absentValue : OutsideTag → ℕ

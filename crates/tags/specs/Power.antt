@@ -6,8 +6,11 @@ use Rattle.tags.specs.Place.{placeOf}
 use Rattle.tags.specs.State.{stateOf, present, switched}
 use Rattle.tags.specs.declared.place.Place.{Place}
 
+abbrev pub deviceCount : ℕ
+deviceCount = 11
+
 abbrev pub devicePlace : (id : ℕ) → Place
-devicePlace id = placeOf id 0 11
+devicePlace id = placeOf id 0 deviceCount
 
 -- the device as a tag leaves it, x being the state that a set asks for
 unfoldable pub powerAfter : PowerTag → ℕ → Device → Device

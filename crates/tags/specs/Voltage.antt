@@ -8,8 +8,11 @@ use Rattle.tags.specs.Clock.{clamp}
 use Rattle.tags.specs.Place.{placeOf}
 use Rattle.tags.specs.declared.place.Place.{Place}
 
+abbrev pub voltageCount : ℕ
+voltageCount = 4
+
 abbrev pub voltagePlace : (id : ℕ) → Place
-voltagePlace id = placeOf id 1 4
+voltagePlace id = placeOf id 1 voltageCount
 
 -- minus n as a word of 32 bits, in two's complement
 abbrev pub minus : ℕ → ℕ

@@ -16,7 +16,7 @@ ghost use Rattle.tags.specs.Named.{Named, absentValue};
 
 // The place of the item that a tag names. A fact has no id and the temperature answers every id:
 // their place is 0.
-pub fn place_in(tag: OutsideTag, id: u32) -> Place
+pub fn item_place(tag: OutsideTag, id: u32) -> Place
     ensures { λ r. ⌜ Named tag id r ⌝ }
 {
     match tag {
@@ -28,7 +28,8 @@ pub fn place_in(tag: OutsideTag, id: u32) -> Place
     }
 }
 
-// What a tag answers of an id that is not listed: the value of an absent item.
+// What a tag answers of an id that is not listed: the value of an absent item. A fact and the
+// temperature are always listed.
 pub fn absent_value(tag: OutsideTag) -> u32
     ensures { λ r. ⌜ r ≡ absentValue tag ⌝ }
 {

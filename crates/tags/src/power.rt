@@ -10,11 +10,11 @@ use table::kinds::PowerTag;
 ghost use mathlib.Core.Path.{_≡_};
 ghost use Rattle.board.specs.Items.{noDevice};
 ghost use Rattle.tags.specs.Named.{Placed};
-ghost use Rattle.tags.specs.Power.{powerAfter, powerValue};
+ghost use Rattle.tags.specs.Power.{deviceCount, powerAfter, powerValue};
 
 // The place of the device of an id, 0 to 10.
 pub fn device_place(id: u32) -> Place
-    ensures { λ r. ⌜ Placed id 0 11 r ⌝ }
+    ensures { λ r. ⌜ Placed id 0 deviceCount r ⌝ }
 {
     place_of(id, 0, 11)
 }

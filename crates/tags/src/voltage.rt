@@ -7,11 +7,11 @@ use table::kinds::VoltageTag;
 ghost use mathlib.Core.Path.{_≡_};
 ghost use Rattle.board.specs.Items.{noVoltage};
 ghost use Rattle.tags.specs.Named.{Placed};
-ghost use Rattle.tags.specs.Voltage.{maxOffset, minOffset, voltageAfter, voltageValue};
+ghost use Rattle.tags.specs.Voltage.{voltageCount, maxOffset, minOffset, voltageAfter, voltageValue};
 
 // The place of the voltage of an id, 1 to 4.
 pub fn voltage_place(id: u32) -> Place
-    ensures { λ r. ⌜ Placed id 1 4 r ⌝ }
+    ensures { λ r. ⌜ Placed id 1 voltageCount r ⌝ }
 {
     place_of(id, 1, 4)
 }

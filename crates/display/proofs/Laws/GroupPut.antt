@@ -13,7 +13,8 @@ use Rattle.display.specs.GroupPut.{groupPut}
 use Rattle.display.specs.declared.decision.Decision.{Decision}
 
 module _ (d : Decision) (t : FrameTag) (at size : ℕ) (f : Facts) (line m : List ℕ) where
-  pub group-put-answered : d .answered ≡ true → {x : Answer} → x ≡ groupAnswer d t → {m′ : List ℕ} → m′ ≡ answered at size (answerBytes f line x) m → m′ ≡ groupPut d t at size f line m
+  pub group-put-answered : d .answered ≡ true → {x : Answer} → x ≡ groupAnswer d t → {m′ : List ℕ} → m′ ≡ answered at size (answerBytes f line x) m
+      → m′ ≡ groupPut d t at size f line m
   group-put-answered y ex e =
       e ∙ ap (λ (a : Answer). answered at size (answerBytes f line a) m) ex
       ∙ ap (λ (b : Bool). cond b (answered at size (answerBytes f line (groupAnswer d t)) m) m) (sym y)

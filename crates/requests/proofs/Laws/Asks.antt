@@ -9,6 +9,7 @@ use lib.ListN.{length, take, drop, length-take, drop-of-length-le}
 use lib.Seq.{take-take}
 use Rattle.words.proofs.Laws.Agree.{number-part}
 use Rattle.words.specs.Numbers.{numberAt, word}
+use Rattle.message.specs.Helpers.{InMessage}
 use Rattle.message.specs.Sizes.{tagHeader}
 use Rattle.message.specs.declared.walk.Tag.{Tag}
 use Rattle.table.proofs.Laws.Rows.{row-words}
@@ -17,7 +18,7 @@ use Rattle.table.specs.declared.kinds.FrameTag.{FrameTag}
 use Rattle.table.specs.declared.kinds.Kind.{Kind}
 use Rattle.table.specs.declared.kinds.OutsideTag.{OutsideTag}
 use Rattle.table.specs.declared.rows.Row.{Row}
-use Rattle.requests.specs.Ask.{askOf, InMessage, RequestFits}
+use Rattle.requests.specs.Ask.{askOf, RequestFits}
 use Rattle.requests.specs.Requests.{requestBy, requestOf, valueOf, asks}
 use Rattle.requests.specs.declared.ask.Ask.{Ask}
 
@@ -52,7 +53,8 @@ module _ (m : List ℕ) (t : Tag) where
       unfolding requestBy askOf
       ask-short l = rw (request-is, e, lt-ltb (t .size) count l)
 
-      pub ask-fits : InMessage (length m) t → count ≤ t .size → (at : ℕ) → at % 4 ≡ 0 → at ≤ 4 → RequestFits (length m) (t .at + tagHeader) count at
+      pub ask-fits : InMessage (length m) (t .at) (t .size) → count ≤ t .size → (at : ℕ) → at % 4 ≡ 0 → at ≤ 4
+          → RequestFits (length m) (t .at + tagHeader) count at
       ask-fits i l at f b = let w = row-words (t .id) (sym er ∙ e) in record { within = omega arith; fours = w .fours; at4 = f; most = b }
 
       -- its request bytes, and their words

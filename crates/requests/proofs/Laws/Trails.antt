@@ -14,13 +14,12 @@ use Rattle.message.proofs.Laws.Steps.{Found, found, step-same}
 use Rattle.message.proofs.Laws.Walks.{no-tag, walk-tag, walk-stop}
 use Rattle.message.proofs.walk.Step
 use Rattle.message.specs.Sizes.{tagHeader}
-use Rattle.message.specs.Helpers.{Walking}
+use Rattle.message.specs.Helpers.{Walking, InMessage}
 use Rattle.message.specs.Walk.{Walk, step, endingOf, walkFrom}
 use Rattle.message.specs.declared.walk.Ending.{Ending}
 use Rattle.message.specs.declared.walk.Step.{Step}
 use Rattle.message.specs.declared.walk.Tag.{Tag}
 use Rattle.requests.specs.Requests.{Request, passed, short, asks, requestBy, requestOf, Trail, ends, goesOn, cutBy, cut, trail}
-use Rattle.requests.specs.Ask.{InMessage}
 
 module _ (m : List ℕ) (size p : ℕ) where
   -- a step that is no tag ends it
@@ -45,7 +44,7 @@ cut-on short t rest n = absurd (n refl)
 cut-on (asks k bytes) t rest n = refl
 
 -- a tag that was found lies in the message
-pub in-message : (m : List ℕ) (size p : ℕ) {t : Tag} {next : ℕ} → Walking m size p → Found m size p t next → InMessage (length m) t
+pub in-message : (m : List ℕ) (size p : ℕ) {t : Tag} {next : ℕ} → Walking m size p → Found m size p t next → InMessage (length m) (t .at) (t .size)
 in-message m size p w f = record { within = omega arith; place = omega arith }
 
 -- a trail reads only what stands from its place on

@@ -32,8 +32,8 @@ use Rattle.responder.proofs.Laws.Saids.{few-characters}
 use Rattle.responder.proofs.Laws.Twice.{twice}
 use Rattle.responder.proofs.Laws.Written.{writes-length}
 use Rattle.responder.specs.Answers.{Said, groupBy, groupOf, answers, after}
-use Rattle.responder.specs.Reply.{writeAll, codeOf, withDisplay, served, openedIf, reply}
-use Rattle.responder.specs.Serve.{bytesOf, tagsServed, groupServed}
+use Rattle.responder.specs.Reply.{writeAll, trailWritten, codeOf, withDisplay, served, openedIf, reply}
+use Rattle.responder.specs.Serve.{tagsServed, groupServed}
 use Rattle.responder.specs.declared.respond.Served.{Served}
 use Rattle.responder.specs.declared.walk.TagsServed.{TagsServed}
 
@@ -48,10 +48,10 @@ module _ (outcome : ℕ) (d : Display) (o : Operation) {r : Decision} where
 module _ (g : Decision) (b : Board) (m : List ℕ) (size : ℕ) where
   pub group-walked : g .answered ≡ true → {m′ : List ℕ} {r : TagsServed} → leaves m′ r ≡ tagsServed g b m size → m′ ≡ groupServed g b m size
   group-walked y e =
-      ap (λ (x : Call TagsServed). x .bytes) e ∙ ap (λ (x : Bool). cond x (bytesOf g b (trail m size header) m) m) (sym y)
+      ap (λ (x : Call TagsServed). x .bytes) e ∙ ap (λ (x : Bool). cond x (trailWritten g b (trail m size header) m) m) (sym y)
 
   pub group-stays : g .answered ≡ false → m ≡ groupServed g b m size
-  group-stays n = ap (λ (x : Bool). cond x (bytesOf g b (trail m size header) m) m) (sym n)
+  group-stays n = ap (λ (x : Bool). cond x (trailWritten g b (trail m size header) m) m) (sym n)
 
 -- ---- a message that is served
 module _ (b : Board) (m : List ℕ) (size : ℕ) (w : Walking m size header) where
@@ -69,7 +69,8 @@ module _ (b : Board) (m : List ℕ) (size : ℕ) (w : Walking m size header) whe
         record { within = w .within; lent = let k = w .lent in omega arith; most = w .most; place4 = w .place4; size4 = w .size4 }
 
   -- the first walk with the group left alone, the group decided and answered, the code word
-  module _ (v : valid b ≡ true) (six : length (b .facts .mac) ≡ 6) {g₀ : Decision} (e₀ : g₀ ≡ leftAlone (b .display)) {m₁ : List ℕ} {r : TagsServed} (e₁ : leaves m₁ r ≡ tagsServed g₀ b m size)
+  module _ (v : valid b ≡ true) (six : length (b .facts .mac) ≡ 6) {g₀ : Decision} (e₀ : g₀ ≡ leftAlone (b .display)) {m₁ : List ℕ} {r : TagsServed}
+      (e₁ : leaves m₁ r ≡ tagsServed g₀ b m size)
       {g : Decision} (eg : g ≡ groupBy (eqb (r .ending .outcome) done) (b .display) (r .operation)) {m₂ : List ℕ} (e₂ : m₂ ≡ groupServed g (r .board) m₁ size) where
     quiet : g₀ .answered ≡ false
     quiet = ap (λ (x : Decision). x .answered) e₀
@@ -87,21 +88,23 @@ module _ (b : Board) (m : List ℕ) (size : ℕ) (w : Walking m size header) whe
         ∙ ap (λ (x : Operation). groupBy (eqb (tr .ending .outcome) done) (b .display) x) (ap (λ (x : Call TagsServed). x .answer .operation) e₁)
 
     -- the second walk makes what one walk would have made; where it is not taken, the first has
-    bytes-are : m₂ ≡ bytesOf g b tr m
+    bytes-are : m₂ ≡ trailWritten g b tr m
     bytes-are = e₂ ∙ either (g .answered) refl
       where
-        first : m₁ ≡ bytesOf g₀ b tr m
+        first : m₁ ≡ trailWritten g₀ b tr m
         first = ap (λ (x : Call TagsServed). x .bytes) e₁
 
-        either : (y : Bool) → g .answered ≡ y → cond y (bytesOf g (r .board) (trail m₁ size header) m₁) m₁ ≡ bytesOf g b tr m
-        either true y = twice g₀ g m size b (r .board) quiet (w .lent) six (few-characters b v) (subst (SameFixed b) (sym board-is) (after-fixed b (tr .requests))) first
+        either : (y : Bool) → g .answered ≡ y → cond y (trailWritten g (r .board) (trail m₁ size header) m₁) m₁ ≡ trailWritten g b tr m
+        either true y =
+            twice g₀ g m size b (r .board) quiet (w .lent) six (few-characters b v) (subst (SameFixed b) (sym board-is) (after-fixed b (tr .requests))) first
         either false n = first ∙ ap (λ (ss : List Said). writeAll (tr .tags) ss m) (answers-unanswered g₀ g b (tr .requests) quiet n)
 
     pub served-is : {code : ℕ} → code ≡ codeOf (r .ending .outcome) → {m₃ : List ℕ} → m₃ ≡ put codePlace (le 4 code) m₂
         → leaves m₃ (record { outcome = r .ending .outcome; place = r .ending .place; board = withDisplay (r .board) (g .display) }) ≡ served b m size
     unfolding served
     served-is {code} ec {m₃} e₃ =
-        let bytes : m₃ ≡ put codePlace (le 4 (codeOf (r .ending .outcome))) (bytesOf g b tr m) = e₃ ∙ ap (λ (n : ℕ). put codePlace (le 4 n) m₂) ec ∙ ap (put codePlace (le 4 (codeOf (r .ending .outcome)))) bytes-are in
+        let bytes : m₃ ≡ put codePlace (le 4 (codeOf (r .ending .outcome))) (trailWritten g b tr m) = e₃ ∙ ap (λ (n : ℕ). put codePlace (le 4 n) m₂) ec ∙ ap
+        (put codePlace (le 4 (codeOf (r .ending .outcome)))) bytes-are in
         rw (bytes, ending-is, board-is, group-is)
 
 -- ---- any record and any bytes
@@ -119,7 +122,8 @@ module _ (b : Board) (m : List ℕ) {v : Bool} (ev : v ≡ valid b) where
     reply-is = rw is-valid
 
     module _ {o : Opened} (eo : o ≡ opened m) where
-      pub respond-refused : {number : ℕ} → o ≡ Opened.Refused number → {r : Served} → r ≡ record { outcome = number; place = 0; board = b } → leaves m r ≡ reply b m
+      pub respond-refused : {number : ℕ} → o ≡ Opened.Refused number → {r : Served} → r ≡ record { outcome = number; place = 0; board = b }
+          → leaves m r ≡ reply b m
       respond-refused e er = rw (er, reply-is, ← eo, e)
 
       module _ {message : Message} (e : o ≡ Opened.Good message) where

@@ -14,7 +14,7 @@ use Rattle.message.proofs.walk.Step
 use Rattle.message.specs.Builder.{leaves}
 use Rattle.message.specs.Outcomes.{shortRequest}
 use Rattle.message.specs.Sizes.{header}
-use Rattle.message.specs.Helpers.{Walking}
+use Rattle.message.specs.Helpers.{Walking, InMessage}
 use Rattle.message.specs.Walk.{step, endingOf}
 use Rattle.message.specs.declared.walk.Ending.{Ending}
 use Rattle.message.specs.declared.walk.Step.{Step}
@@ -35,7 +35,7 @@ use Rattle.display.specs.GroupPut.{groupPut}
 use Rattle.display.specs.declared.decision.Decision.{Decision}
 use Rattle.display.specs.declared.operation.Operation.{Operation}
 use Rattle.requests.proofs.Laws.Trails.{trail-stop, trail-tag, request-same, cut-on, in-message}
-use Rattle.requests.specs.Ask.{askOf, InMessage}
+use Rattle.requests.specs.Ask.{askOf}
 use Rattle.requests.specs.Requests.{first, second, Request, passed, short, asks, requestOf, Trail, ends, goesOn, cutBy, trail}
 use Rattle.requests.specs.declared.ask.Ask.{Ask}
 use Rattle.responder.proofs.Laws.Fixed.{after-same}
@@ -60,7 +60,8 @@ module _ (g : Decision) (b : Board) (o : Operation) where
   comes-pass (asks (Kind.Outside t) bytes) e = absurd (true≢false cc)
   comes-pass (asks (Kind.Group t) bytes) e = absurd (true≢false cc)
 
-  comes-outside : (r : Request) {k : OutsideTag} {a x : ℕ} → Ask.Outside k a x ≡ askOf r → Comes g b o r (says (answerBytes (b .facts) (b .line) (outsideAnswer k a x b))) (outsideAfter k a x b) o
+  comes-outside : (r : Request) {k : OutsideTag} {a x : ℕ} → Ask.Outside k a x ≡ askOf r
+      → Comes g b o r (says (answerBytes (b .facts) (b .line) (outsideAnswer k a x b))) (outsideAfter k a x b) o
   unfolding askOf saidBy afterBy
   comes-outside passed e = absurd (true≢false cc)
   comes-outside short e = absurd (true≢false cc)
@@ -100,20 +101,24 @@ pub record Ahead (g : Decision) (m₀ : List ℕ) (size : ℕ) (b₀ : Board) (m
   pub serves : trailServed g b o (trail m₀ size p) m ≡ tagsServed g b₀ m₀ size
   pub line : length (b .line) ≤ 256
 
-pub serve-start : (g : Decision) (m₀ : List ℕ) (size : ℕ) (b₀ : Board) {o : Operation} → Walking m₀ size header → o ≡ unasked (b₀ .display .settings) → length (b₀ .line) ≤ 256
+pub serve-start : (g : Decision) (m₀ : List ℕ) (size : ℕ) (b₀ : Board) {o : Operation} → Walking m₀ size header → o ≡ unasked (b₀ .display .settings)
+    → length (b₀ .line) ≤ 256
     → Ahead g m₀ size b₀ m₀ b₀ o header
-serve-start g m₀ size b₀ w e l = record { walking = w; same = refl; rest = refl; serves = ap (λ (x : Operation). trailServed g b₀ x (trail m₀ size header) m₀) e; line = l }
+serve-start g m₀ size b₀ w e l =
+    record { walking = w; same = refl; rest = refl; serves = ap (λ (x : Operation). trailServed g b₀ x (trail m₀ size header) m₀) e; line = l }
 
-module _ (g : Decision) (m₀ : List ℕ) (size : ℕ) (b₀ : Board) (m : List ℕ) (b : Board) (o : Operation) (p : ℕ) (h : Ahead g m₀ size b₀ m b o p) {st : Step} (es : st ≡ step m size p) where
+module _ (g : Decision) (m₀ : List ℕ) (size : ℕ) (b₀ : Board) (m : List ℕ) (b : Board) (o : Operation) (p : ℕ) (h : Ahead g m₀ size b₀ m b o p) {st : Step}
+    (es : st ≡ step m size p) where
   es₀ : step m₀ size p ≡ st
   es₀ = sym (step-same m m₀ size p (h .rest)) ∙ sym es
 
   -- where the trail ends, all is written
-  ends-here : {e : Ending} → trail m₀ size p ≡ ends e → {r : TagsServed} → r ≡ record { ending = e; operation = o; board = b } → leaves m r ≡ tagsServed g b₀ m₀ size
+  ends-here : {e : Ending} → trail m₀ size p ≡ ends e → {r : TagsServed} → r ≡ record { ending = e; operation = o; board = b }
+      → leaves m r ≡ tagsServed g b₀ m₀ size
   ends-here e er = ap (leaves m) er ∙ ap (λ (x : Trail). trailServed g b o x m) (sym e) ∙ h .serves
 
-  pub serve-stop : OneOf (1 ∷ 2 ∷ []) (tagOf Step.the-type st) → {e : Ending} → e ≡ endingOf st → {r : TagsServed} → r ≡ record { ending = e; operation = o; board = b }
-      → leaves m r ≡ tagsServed g b₀ m₀ size
+  pub serve-stop : OneOf (1 ∷ 2 ∷ []) (tagOf Step.the-type st) → {e : Ending} → e ≡ endingOf st → {r : TagsServed}
+      → r ≡ record { ending = e; operation = o; board = b } → leaves m r ≡ tagsServed g b₀ m₀ size
   serve-stop k ee = ends-here (trail-stop m₀ size p st k es₀ ∙ ap ends (sym ee))
 
   module _ {t : Tag} {next : ℕ} (et : st ≡ Step.Tag t next) where
@@ -123,28 +128,26 @@ module _ (g : Decision) (m₀ : List ℕ) (size : ℕ) (b₀ : Board) (m : List 
     pub serve-less : size - next < size - p
     serve-less = let f = here in let w = h .walking in omega arith
 
-    pub serve-in : InMessage (length m) t
+    pub serve-in : InMessage (length m) (t .at) (t .size)
     serve-in = in-message m size p (h .walking) here
 
     pub serve-fits : AnswerFits (length m) (t .at) (t .size) (length (b .line))
-    serve-fits = let i = serve-in in record { within = i .within; place = i .place; short = h .line }
-
-    pub serve-pair : AnswerFits (length m) (t .at) (t .size) 0
-    serve-pair = let i = serve-in in record { within = i .within; place = i .place; short = omega arith }
+    serve-fits = record { tag = serve-in; short = h .line }
 
     module _ {q : Ask} (eq : q ≡ askOf (requestOf m t)) where
       asked₀ : q ≡ askOf (requestOf m₀ t)
       asked₀ = let f = here in eq ∙ ap askOf (request-same m m₀ t (subst (λ (x : ℕ). drop x m ≡ drop x m₀) (sym (f .at)) (h .rest)))
 
-      pub serve-short : q ≡ Ask.Short → {e : Ending} → e ≡ record { outcome = shortRequest; place = p } → {r : TagsServed} → r ≡ record { ending = e; operation = o; board = b }
-          → leaves m r ≡ tagsServed g b₀ m₀ size
+      pub serve-short : q ≡ Ask.Short → {e : Ending} → e ≡ record { outcome = shortRequest; place = p } → {r : TagsServed}
+          → r ≡ record { ending = e; operation = o; board = b } → leaves m r ≡ tagsServed g b₀ m₀ size
       serve-short e ee =
           let f = here in
           let r : requestOf m₀ t ≡ short = short-asks (requestOf m₀ t) (sym e ∙ asked₀) in
           ends-here (trail-tag m₀ size p (es₀ ∙ et) ∙ ap (λ (x : Request). cutBy x t (trail m₀ size next)) r
           ∙ ap (λ (x : ℕ). ends (record { outcome = shortRequest; place = x })) (f .at) ∙ ap ends (sym ee))
 
-      serve-on : {s : Said} {b₁ : Board} {o₁ : Operation} → Comes g b o (requestOf m₀ t) s b₁ o₁ → {m′ : List ℕ} {b′ : Board} {o′ : Operation} → m′ ≡ written t s m → b′ ≡ b₁ → o′ ≡ o₁
+      serve-on : {s : Said} {b₁ : Board} {o₁ : Operation} → Comes g b o (requestOf m₀ t) s b₁ o₁ → {m′ : List ℕ} {b′ : Board} {o′ : Operation}
+          → m′ ≡ written t s m → b′ ≡ b₁ → o′ ≡ o₁
           → Ahead g m₀ size b₀ m′ b′ o′ next
       serve-on {s} c {m′} {b′} {o′} em eb eo =
           let f = here in
@@ -167,7 +170,8 @@ module _ (g : Decision) (m₀ : List ℕ) (size : ℕ) (b₀ : Board) (m : List 
       pub serve-pass : q ≡ Ask.Pass → Ahead g m₀ size b₀ m b o next
       serve-pass e = serve-on (comes-pass g b o (requestOf m₀ t) (sym e ∙ asked₀)) refl refl refl
 
-      pub serve-group : {k : FrameTag} {a x : ℕ} → q ≡ Ask.Group k a x → {o′ : Operation} → o′ ≡ noted k a x o → {m′ : List ℕ} → m′ ≡ groupPut g k (t .at) (t .size) (b .facts) (b .line) m
+      pub serve-group : {k : FrameTag} {a x : ℕ} → q ≡ Ask.Group k a x → {o′ : Operation} → o′ ≡ noted k a x o → {m′ : List ℕ}
+          → m′ ≡ groupPut g k (t .at) (t .size) (b .facts) (b .line) m
           → Ahead g m₀ size b₀ m′ b o′ next
       serve-group {k} e eo em =
           let answer = answerBytes (b .facts) (b .line) (groupAnswer g k) in
@@ -178,11 +182,14 @@ module _ (g : Decision) (m₀ : List ℕ) (size : ℕ) (b₀ : Board) (m : List 
           either false answer = refl
 
       module _ {k : OutsideTag} {a x : ℕ} (e : q ≡ Ask.Outside k a x) where
-        pub serve-answer : {answer : Answer} {b′ : Board} → Serves k a x b answer b′ → {m′ : List ℕ} → m′ ≡ answered (t .at) (t .size) (answerBytes (b .facts) (b .line) answer) m
+        pub serve-answer : {answer : Answer} {b′ : Board} → Serves k a x b answer b′ → {m′ : List ℕ}
+            → m′ ≡ answered (t .at) (t .size) (answerBytes (b .facts) (b .line) answer) m
             → Ahead g m₀ size b₀ m′ b′ o next
         serve-answer v em =
-            serve-on (comes-outside g b o (requestOf m₀ t) (sym e ∙ asked₀)) (em ∙ ap (λ (y : Answer). answered (t .at) (t .size) (answerBytes (b .facts) (b .line) y) m) (v .says)) (v .leaves) refl
+            serve-on (comes-outside g b o (requestOf m₀ t) (sym e ∙ asked₀)) (em ∙ ap (λ (y : Answer). answered (t .at) (t .size) (answerBytes (b .facts)
+            (b .line) y) m) (v .says)) (v .leaves) refl
 
-        pub serve-item : {n : ℕ} {b′ : Board} → Serves k a x b (Answer.Pair a n) b′ → {m′ : List ℕ} → m′ ≡ answered (t .at) (t .size) (le 4 a ++ le 4 n) m → Ahead g m₀ size b₀ m′ b′ o next
+        pub serve-item : {n : ℕ} {b′ : Board} → Serves k a x b (Answer.Pair a n) b′ → {m′ : List ℕ} → m′ ≡ answered (t .at) (t .size) (le 4 a ++ le 4 n) m
+            → Ahead g m₀ size b₀ m′ b′ o next
         unfolding answerBytes
         serve-item v em = serve-answer v em

@@ -18,7 +18,7 @@ use Rattle.answers.specs.declared.answer.Answer.{Answer}
 use Rattle.tags.proofs.Laws.Items.{power-absent, clock-absent, voltage-absent}
 use Rattle.tags.specs.Clock.{clockAfter, clockValue}
 use Rattle.tags.specs.Fact.{factAnswer}
-use Rattle.tags.specs.Named.{placeIn, itemCount, Named, absentValue}
+use Rattle.tags.specs.Named.{itemPlace, itemCount, Named, absentValue}
 use Rattle.tags.specs.Outside.{outsideAnswer, outsideAfter, withDevices, withClocks, withVoltages}
 use Rattle.tags.specs.Power.{powerAfter, powerValue}
 use Rattle.tags.specs.Temperature.{temperatureValue}
@@ -49,16 +49,18 @@ module _ (a x : ℕ) (b : Board) where
     unfolding outsideAnswer outsideAfter
     serves-fact ek e = rw ek (record { says = e; leaves = refl })
 
-    pub serves-temperature : {t : TemperatureTag} → k ≡ OutsideTag.Temperature t → {n : ℕ} → n ≡ temperatureValue t a (b .temperature) → Serves k a x b (Answer.Pair a n) b
+    pub serves-temperature : {t : TemperatureTag} → k ≡ OutsideTag.Temperature t → {n : ℕ} → n ≡ temperatureValue t a (b .temperature)
+        → Serves k a x b (Answer.Pair a n) b
     unfolding outsideAnswer outsideAfter
     serves-temperature ek e = rw ek (record { says = rw e; leaves = refl })
 
     -- the item at the place
     module _ {r : Place} (p : Named k a r) {i : ℕ} (e : r ≡ Place.At i) where
-      placed : (k′ : OutsideTag) → k ≡ k′ → placeIn k′ a ≡ Place.At i
-      placed k′ ek = ap (λ (z : OutsideTag). placeIn z a) (sym ek) ∙ sym (p .is) ∙ e
+      placed : (k′ : OutsideTag) → k ≡ k′ → itemPlace k′ a ≡ Place.At i
+      placed k′ ek = ap (λ (z : OutsideTag). itemPlace z a) (sym ek) ∙ sym (p .is) ∙ e
 
-      pub serves-power : {t : PowerTag} → k ≡ OutsideTag.Power t → {d : Device} → d ≡ powerAfter t x (getD (b .devices) i noDevice) → {n : ℕ} → n ≡ powerValue t d
+      pub serves-power : {t : PowerTag} → k ≡ OutsideTag.Power t → {d : Device} → d ≡ powerAfter t x (getD (b .devices) i noDevice) → {n : ℕ}
+          → n ≡ powerValue t d
           → Serves k a x b (Answer.Pair a n) (withDevices b (set (b .devices) i d))
       unfolding outsideAnswer outsideAfter
       serves-power {t} ek ed en = let q = placed (OutsideTag.Power t) ek in rw ek (record { says = rw (q, ← ed, ← en); leaves = rw (q, ← ed) })
@@ -68,7 +70,8 @@ module _ (a x : ℕ) (b : Board) where
       unfolding outsideAnswer outsideAfter
       serves-clock {t} ek ec en = let q = placed (OutsideTag.Clock t) ek in rw ek (record { says = rw (q, ← ec, ← en); leaves = rw (q, ← ec) })
 
-      pub serves-voltage : {t : VoltageTag} → k ≡ OutsideTag.Voltage t → {v : Voltage} → v ≡ voltageAfter t x (getD (b .voltages) i noVoltage) → {n : ℕ} → n ≡ voltageValue t v
+      pub serves-voltage : {t : VoltageTag} → k ≡ OutsideTag.Voltage t → {v : Voltage} → v ≡ voltageAfter t x (getD (b .voltages) i noVoltage) → {n : ℕ}
+          → n ≡ voltageValue t v
           → Serves k a x b (Answer.Pair a n) (withVoltages b (set (b .voltages) i v))
       unfolding outsideAnswer outsideAfter
       serves-voltage {t} ek ev en = let q = placed (OutsideTag.Voltage t) ek in rw ek (record { says = rw (q, ← ev, ← en); leaves = rw (q, ← ev) })

@@ -25,7 +25,8 @@ carry-out-requires c κs = (c .before .before .before .before .pre, sym (c .befo
 returns-3 : tie.Need-returns-3
 returns-3 c =
     let at-others = c .before .before .before in
-    c .carry-out .ensures ∙ carried-out-by _ _ (at-others .before .if1 .left) (at-others .if3 .taken) (c .before .before .is-accepted .ensures) (c .before .if4 .taken)
+    c .carry-out .ensures ∙ carried-out-by _ _ (at-others .before .if1 .left) (at-others .if3 .taken) (c .before .before .is-accepted .ensures)
+    (c .before .if4 .taken)
 
 show-requires : tie.Need-show-requires
 show-requires c κs = valid-possible _ (c .before .before .before .before .pre)
@@ -33,7 +34,8 @@ show-requires c κs = valid-possible _ (c .before .before .before .before .pre)
 returns-4 : tie.Need-returns-4
 returns-4 c =
     let at-others = c .before .before .before in
-    c .show .ensures ∙ carried-out-by _ _ (at-others .before .if1 .left) (at-others .if3 .taken) (c .before .before .is-accepted .ensures) (c .before .if4 .left)
+    c .show .ensures ∙ carried-out-by _ _ (at-others .before .if1 .left) (at-others .if3 .taken) (c .before .before .is-accepted .ensures)
+    (c .before .if4 .left)
 
 leave-requires-2 : tie.Need-leave-requires-2
 leave-requires-2 c κs = search needs

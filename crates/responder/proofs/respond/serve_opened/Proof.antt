@@ -43,7 +43,8 @@ returns c =
     let kept = start .good .0 .1 .1 .0 .1 .1 .1 .1 .1 .0 in
     let six : length (start .args .board .facts .mac) ≡ 6 = search needs in
     served-is _ _ _ (start .pre .0) (start .pre .1) six (at-walk .before .leave .ensures) (at-walk .serve-tags .ensures) (at-group .group-of .ensures)
-    (c .before .before .before .before .before .before .before .before .before .answer-group .ensures) (c .before .before .before .before .before .code-of .ensures)
+    (c .before .before .before .before .before .before .before .before .before .answer-group .ensures)
+    (c .before .before .before .before .before .code-of .ensures)
     (c .before .before .before .before .put-u32 .ensures)
 
 pub serve-opened-spec : {M : Type 1} → statement M

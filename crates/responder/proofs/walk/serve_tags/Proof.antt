@@ -4,7 +4,8 @@ use native.Mathlib.Omega.{arith}
 use borrow.Author.Needs.{needs}
 use lib.ListN.{length}
 use Rattle.tags.proofs.Laws.Served.{within-items, serves-unlisted, serves-fact, serves-power, serves-clock, serves-voltage, serves-temperature}
-use Rattle.responder.proofs.Laws.Serving.{Ahead, serve-start, serve-stop, serve-less, serve-in, serve-fits, serve-pair, serve-short, serve-pass, serve-group, serve-answer, serve-item}
+use Rattle.responder.proofs.Laws.Serving.{Ahead, serve-start, serve-stop, serve-less, serve-in, serve-fits, serve-short}
+use Rattle.responder.proofs.Laws.Serving.{serve-pass, serve-group, serve-answer, serve-item}
 use Rattle.responder.proofs.walk.serve_tags.Statement.{statement}
 use Rattle.responder.proofs.walk.serve_tags.Tie as tie
 
@@ -41,8 +42,10 @@ same-length c = search needs
 
 returns : tie.Need-returns Inv-loop μ-loop
 returns c =
-    let at-step = c .before .before .before in
-    serve-stop _ _ _ _ _ _ _ _ (at-step .before .before .loop .inv) (at-step .step-at .ensures) (c .before .before .match .keys2) (c .before .ended .ensures) (c .tags-served .ensures)
+    let at-match = c .before .before in
+    let at-step = at-match .before in
+    serve-stop _ _ _ _ _ _ _ _ (at-step .before .before .loop .inv) (at-step .step-at .ensures) (at-match .match .keys2)
+    (c .before .ended .ensures) (c .tags-served .ensures)
 
 ask-at-requires : tie.Need-ask-at-requires Inv-loop μ-loop
 ask-at-requires c κs = search serve-in
@@ -60,7 +63,11 @@ tags-served-requires-2 : tie.Need-tags-served-requires-2 Inv-loop μ-loop
 tags-served-requires-2 c κs = search needs
 
 same-length-2 : tie.Need-same-length-2 Inv-loop μ-loop
-same-length-2 c = c .before .before .before .before .before .before .before .before .before .before .before .loop .inv .same
+same-length-2 c =
+    let at-ask = c .before .before .before .before in
+    let at-tag = at-ask .before .before .before in
+    let at-step = at-tag .before .before in
+    at-step .before .before .loop .inv .same
 
 returns-2 : tie.Need-returns-2 Inv-loop μ-loop
 returns-2 c =
@@ -82,8 +89,8 @@ put-group-requires c κs = search serve-fits
 enum-known-ask-2 : tie.Need-enum-known-ask-2 Inv-loop μ-loop
 enum-known-ask-2 c = search needs
 
-place-in-requires : tie.Need-place-in-requires Inv-loop μ-loop
-place-in-requires c κs = search needs
+item-place-requires : tie.Need-item-place-requires Inv-loop μ-loop
+item-place-requires c κs = search needs
 
 enum-known-place : tie.Need-enum-known-place Inv-loop μ-loop
 enum-known-place c = search needs
@@ -95,21 +102,27 @@ absent-value-requires : tie.Need-absent-value-requires Inv-loop μ-loop
 absent-value-requires c κs = search needs
 
 put-pair-requires : tie.Need-put-pair-requires Inv-loop μ-loop
-put-pair-requires c κs = search serve-pair
+put-pair-requires c κs = search serve-in
 
 loop-less : tie.Need-loop-less Inv-loop μ-loop
 loop-less c = search serve-less
 
 loop-again : tie.Need-loop-again Inv-loop μ-loop
 loop-again c =
-    let at-ask = c .before .before .before .before .before .before .before .before .before .before .before in
+    let at-value = c .before .before .before in
+    let at-unlisted = at-value .before .before in
+    let at-item = at-unlisted .before .before in
+    let at-asked = at-item .before .before in
+    let at-ask = at-asked .before .before in
     let at-tag = at-ask .before .before .before in
     let at-step = at-tag .before .before in
     serve-item _ _ _ _ _ _ _ _ (at-step .before .before .loop .inv) (at-step .step-at .ensures) (at-tag .st .given .1) (at-ask .ask-at .ensures)
-    (c .before .before .before .before .before .before .before .before .before .ask2 .given .1) (serves-unlisted _ _ _ _ (c .before .before .before .before .before .before .before .place-in .ensures) (c .before .before .before .before .before .enum-told3 .given .1) (c .before .before .before .absent-value .ensures)) (c .before .before .put-pair .ensures)
+    (at-asked .ask2 .given .1)
+    (serves-unlisted _ _ _ _ (at-item .item-place .ensures) (at-unlisted .enum-told3 .given .1) (at-value .absent-value .ensures))
+    (c .before .before .put-pair .ensures)
 
-enum-known-family : tie.Need-enum-known-family Inv-loop μ-loop
-enum-known-family c = search needs
+enum-known-outside : tie.Need-enum-known-outside Inv-loop μ-loop
+enum-known-outside c = search needs
 
 answer-fact-requires : tie.Need-answer-fact-requires Inv-loop μ-loop
 answer-fact-requires c κs = search needs
@@ -117,86 +130,128 @@ answer-fact-requires c κs = search needs
 put-answer-requires : tie.Need-put-answer-requires Inv-loop μ-loop
 put-answer-requires c κs = search serve-fits
 
-enum-known-family-2 : tie.Need-enum-known-family-2 Inv-loop μ-loop
-enum-known-family-2 c = search needs
+enum-known-outside-2 : tie.Need-enum-known-outside-2 Inv-loop μ-loop
+enum-known-outside-2 c = search needs
 
 mul-power-after : tie.Need-mul-power-after Inv-loop μ-loop
-mul-power-after c = let h = within-items (c .before .before .before .before .before .before .place-in .ensures) (c .before .family2 .given .1) (c .before .before .before .before .place .given .1) in search needs
+mul-power-after c =
+    let at-family = c .before in
+    let at-place = at-family .before .before .before in
+    let h = within-items (at-place .before .before .item-place .ensures) (at-family .outside2 .given .1) (at-place .place .given .1) in
+    search needs
 
 element-copy-out-power-after : tie.Need-element-copy-out-power-after Inv-loop μ-loop
-element-copy-out-power-after c = within-items (c .before .before .before .before .before .before .place-in .ensures) (c .before .family2 .given .1) (c .before .before .before .before .place .given .1)
+element-copy-out-power-after c =
+    let at-family = c .before in
+    let at-place = at-family .before .before .before in
+    within-items (at-place .before .before .item-place .ensures) (at-family .outside2 .given .1) (at-place .place .given .1)
 
 power-after-requires : tie.Need-power-after-requires Inv-loop μ-loop
 power-after-requires c κs = search needs
 
 mul-d : tie.Need-mul-d Inv-loop μ-loop
-mul-d c = let h = within-items (c .before .before .before .before .before .before .before .before .place-in .ensures) (c .before .before .before .family2 .given .1) (c .before .before .before .before .before .before .place .given .1) in search needs
+mul-d c =
+    let at-family = c .before .before .before in
+    let at-place = at-family .before .before .before in
+    let h = within-items (at-place .before .before .item-place .ensures) (at-family .outside2 .given .1) (at-place .place .given .1) in
+    search needs
 
 element-set-from-d : tie.Need-element-set-from-d Inv-loop μ-loop
-element-set-from-d c = within-items (c .before .before .before .before .before .before .before .before .place-in .ensures) (c .before .before .before .family2 .given .1) (c .before .before .before .before .before .before .place .given .1)
+element-set-from-d c =
+    let at-family = c .before .before .before in
+    let at-place = at-family .before .before .before in
+    within-items (at-place .before .before .item-place .ensures) (at-family .outside2 .given .1) (at-place .place .given .1)
 
 power-value-requires : tie.Need-power-value-requires Inv-loop μ-loop
 power-value-requires c κs = search needs
 
 put-pair-requires-2 : tie.Need-put-pair-requires-2 Inv-loop μ-loop
-put-pair-requires-2 c κs = search serve-pair
+put-pair-requires-2 c κs = search serve-in
 
-enum-known-family-3 : tie.Need-enum-known-family-3 Inv-loop μ-loop
-enum-known-family-3 c = search needs
+enum-known-outside-3 : tie.Need-enum-known-outside-3 Inv-loop μ-loop
+enum-known-outside-3 c = search needs
 
 mul-clock-after : tie.Need-mul-clock-after Inv-loop μ-loop
-mul-clock-after c = let h = within-items (c .before .before .before .before .before .before .place-in .ensures) (c .before .family3 .given .1) (c .before .before .before .before .place .given .1) in search needs
+mul-clock-after c =
+    let at-family = c .before in
+    let at-place = at-family .before .before .before in
+    let h = within-items (at-place .before .before .item-place .ensures) (at-family .outside3 .given .1) (at-place .place .given .1) in
+    search needs
 
 element-copy-out-clock-after : tie.Need-element-copy-out-clock-after Inv-loop μ-loop
-element-copy-out-clock-after c = within-items (c .before .before .before .before .before .before .place-in .ensures) (c .before .family3 .given .1) (c .before .before .before .before .place .given .1)
+element-copy-out-clock-after c =
+    let at-family = c .before in
+    let at-place = at-family .before .before .before in
+    within-items (at-place .before .before .item-place .ensures) (at-family .outside3 .given .1) (at-place .place .given .1)
 
 clock-after-requires : tie.Need-clock-after-requires Inv-loop μ-loop
 clock-after-requires c κs = search needs
 
 mul-c : tie.Need-mul-c Inv-loop μ-loop
-mul-c c = let h = within-items (c .before .before .before .before .before .before .before .before .place-in .ensures) (c .before .before .before .family3 .given .1) (c .before .before .before .before .before .before .place .given .1) in search needs
+mul-c c =
+    let at-family = c .before .before .before in
+    let at-place = at-family .before .before .before in
+    let h = within-items (at-place .before .before .item-place .ensures) (at-family .outside3 .given .1) (at-place .place .given .1) in
+    search needs
 
 element-set-from-c : tie.Need-element-set-from-c Inv-loop μ-loop
-element-set-from-c c = within-items (c .before .before .before .before .before .before .before .before .place-in .ensures) (c .before .before .before .family3 .given .1) (c .before .before .before .before .before .before .place .given .1)
+element-set-from-c c =
+    let at-family = c .before .before .before in
+    let at-place = at-family .before .before .before in
+    within-items (at-place .before .before .item-place .ensures) (at-family .outside3 .given .1) (at-place .place .given .1)
 
 clock-value-requires : tie.Need-clock-value-requires Inv-loop μ-loop
 clock-value-requires c κs = search needs
 
 put-pair-requires-3 : tie.Need-put-pair-requires-3 Inv-loop μ-loop
-put-pair-requires-3 c κs = search serve-pair
+put-pair-requires-3 c κs = search serve-in
 
-enum-known-family-4 : tie.Need-enum-known-family-4 Inv-loop μ-loop
-enum-known-family-4 c = search needs
+enum-known-outside-4 : tie.Need-enum-known-outside-4 Inv-loop μ-loop
+enum-known-outside-4 c = search needs
 
 mul-voltage-after : tie.Need-mul-voltage-after Inv-loop μ-loop
-mul-voltage-after c = let h = within-items (c .before .before .before .before .before .before .place-in .ensures) (c .before .family4 .given .1) (c .before .before .before .before .place .given .1) in search needs
+mul-voltage-after c =
+    let at-family = c .before in
+    let at-place = at-family .before .before .before in
+    let h = within-items (at-place .before .before .item-place .ensures) (at-family .outside4 .given .1) (at-place .place .given .1) in
+    search needs
 
 element-copy-out-voltage-after : tie.Need-element-copy-out-voltage-after Inv-loop μ-loop
-element-copy-out-voltage-after c = within-items (c .before .before .before .before .before .before .place-in .ensures) (c .before .family4 .given .1) (c .before .before .before .before .place .given .1)
+element-copy-out-voltage-after c =
+    let at-family = c .before in
+    let at-place = at-family .before .before .before in
+    within-items (at-place .before .before .item-place .ensures) (at-family .outside4 .given .1) (at-place .place .given .1)
 
 voltage-after-requires : tie.Need-voltage-after-requires Inv-loop μ-loop
 voltage-after-requires c κs = search needs
 
 mul-v : tie.Need-mul-v Inv-loop μ-loop
-mul-v c = let h = within-items (c .before .before .before .before .before .before .before .before .place-in .ensures) (c .before .before .before .family4 .given .1) (c .before .before .before .before .before .before .place .given .1) in search needs
+mul-v c =
+    let at-family = c .before .before .before in
+    let at-place = at-family .before .before .before in
+    let h = within-items (at-place .before .before .item-place .ensures) (at-family .outside4 .given .1) (at-place .place .given .1) in
+    search needs
 
 element-set-from-v : tie.Need-element-set-from-v Inv-loop μ-loop
-element-set-from-v c = within-items (c .before .before .before .before .before .before .before .before .place-in .ensures) (c .before .before .before .family4 .given .1) (c .before .before .before .before .before .before .place .given .1)
+element-set-from-v c =
+    let at-family = c .before .before .before in
+    let at-place = at-family .before .before .before in
+    within-items (at-place .before .before .item-place .ensures) (at-family .outside4 .given .1) (at-place .place .given .1)
 
 voltage-value-requires : tie.Need-voltage-value-requires Inv-loop μ-loop
 voltage-value-requires c κs = search needs
 
 put-pair-requires-4 : tie.Need-put-pair-requires-4 Inv-loop μ-loop
-put-pair-requires-4 c κs = search serve-pair
+put-pair-requires-4 c κs = search serve-in
 
-enum-known-family-5 : tie.Need-enum-known-family-5 Inv-loop μ-loop
-enum-known-family-5 c = search needs
+enum-known-outside-5 : tie.Need-enum-known-outside-5 Inv-loop μ-loop
+enum-known-outside-5 c = search needs
 
 temperature-value-requires : tie.Need-temperature-value-requires Inv-loop μ-loop
 temperature-value-requires c κs = search needs
 
 put-pair-requires-5 : tie.Need-put-pair-requires-5 Inv-loop μ-loop
-put-pair-requires-5 c κs = search serve-pair
+put-pair-requires-5 c κs = search serve-in
 
 loop-less-2 : tie.Need-loop-less-2 Inv-loop μ-loop
 loop-less-2 c = search serve-less
@@ -206,7 +261,8 @@ loop-again-2 c =
     let at-ask = c .before .before in
     let at-tag = at-ask .before .before .before in
     let at-step = at-tag .before .before in
-    serve-pass _ _ _ _ _ _ _ _ (at-step .before .before .loop .inv) (at-step .step-at .ensures) (at-tag .st .given .1) (at-ask .ask-at .ensures) (c .enum-told .given .1)
+    serve-pass _ _ _ _ _ _ _ _ (at-step .before .before .loop .inv) (at-step .step-at .ensures) (at-tag .st .given .1) (at-ask .ask-at .ensures)
+    (c .enum-told .given .1)
 
 loop-less-3 : tie.Need-loop-less-3 Inv-loop μ-loop
 loop-less-3 c =
@@ -216,11 +272,13 @@ loop-less-3 c =
 
 loop-again-3 : tie.Need-loop-again-3 Inv-loop μ-loop
 loop-again-3 c =
-    let at-ask = c .before .before .before .before .before .before .before .before .before .before .before .before in
+    let at-note = c .before .before .before .before .before .before .before .before in
+    let at-asked = at-note .before .before in
+    let at-ask = at-asked .before .before in
     let at-tag = at-ask .before .before .before in
     let at-step = at-tag .before .before in
     serve-group _ _ _ _ _ _ _ _ (at-step .before .before .loop .inv) (at-step .step-at .ensures) (at-tag .st .given .1) (at-ask .ask-at .ensures)
-    (c .before .before .before .before .before .before .before .before .before .before .ask .given .1) (c .before .before .before .before .before .before .before .before .note .ensures) (c .before .before .put-group .ensures)
+    (at-asked .ask .given .1) (at-note .note .ensures) (c .before .before .put-group .ensures)
 
 loop-less-4 : tie.Need-loop-less-4 Inv-loop μ-loop
 loop-less-4 c =
@@ -230,11 +288,15 @@ loop-less-4 c =
 
 loop-again-4 : tie.Need-loop-again-4 Inv-loop μ-loop
 loop-again-4 c =
-    let at-ask = c .before .before .before .before .before .before .before .before .before .before .before .before .before .before .before .before .before .before .before .before in
+    let at-fact = c .before .before .before .before .before .before .before .before in
+    let at-family = at-fact .before .before .before in
+    let at-asked = at-family .before .before .before .before .before .before .before in
+    let at-ask = at-asked .before .before in
     let at-tag = at-ask .before .before .before in
     let at-step = at-tag .before .before in
     serve-answer _ _ _ _ _ _ _ _ (at-step .before .before .loop .inv) (at-step .step-at .ensures) (at-tag .st .given .1) (at-ask .ask-at .ensures)
-    (c .before .before .before .before .before .before .before .before .before .before .before .before .before .before .before .before .before .before .ask2 .given .1) (serves-fact _ _ _ (c .before .before .before .before .before .before .before .before .before .before .before .family .given .1) (c .before .before .before .before .before .before .before .before .answer-fact .ensures)) (c .before .before .put-answer .ensures)
+    (at-asked .ask2 .given .1)
+    (serves-fact _ _ _ (at-family .outside .given .1) (at-fact .answer-fact .ensures)) (c .before .before .put-answer .ensures)
 
 loop-less-5 : tie.Need-loop-less-5 Inv-loop μ-loop
 loop-less-5 c =
@@ -244,11 +306,14 @@ loop-less-5 c =
 
 loop-again-5 : tie.Need-loop-again-5 Inv-loop μ-loop
 loop-again-5 c =
-    let at-ask = c .before .before .before .before .before .before .before .before .before .before .before .before .before .before .before .before .before in
-    let at-tag = at-ask .before .before .before in
-    let at-step = at-tag .before .before in
-    serve-item _ _ _ _ _ _ _ _ (at-step .before .before .loop .inv) (at-step .step-at .ensures) (at-tag .st .given .1) (at-ask .ask-at .ensures)
-    (c .before .before .before .before .before .before .before .before .before .before .before .before .before .before .before .ask2 .given .1) (serves-power _ _ _ (c .before .before .before .before .before .before .before .before .before .before .before .before .before .place-in .ensures) (c .before .before .before .before .before .before .before .before .before .before .before .place .given .1) (c .before .before .before .before .before .before .before .before .family2 .given .1) (c .before .before .before .before .before .power-after .ensures) (c .before .before .before .power-value .ensures))
+    let at-value = c .before .before .before in
+    let at-family = at-value .before .before .before .before .before in
+    let at-place = at-family .before .before .before in
+    let at-ask = at-place .before .before .before .before .before .before in
+    let at-step = at-ask .before .before .before .before .before in
+    serve-item _ _ _ _ _ _ _ _ (at-step .before .before .loop .inv) (at-step .step-at .ensures) (at-ask .before .before .before .st .given .1)
+    (at-ask .ask-at .ensures) (at-place .before .before .before .before .ask2 .given .1) (serves-power _ _ _ (at-place .before .before .item-place .ensures)
+    (at-place .place .given .1) (at-family .outside2 .given .1) (at-value .before .before .power-after .ensures) (at-value .power-value .ensures))
     (c .before .before .put-pair2 .ensures)
 
 loop-less-6 : tie.Need-loop-less-6 Inv-loop μ-loop
@@ -259,11 +324,14 @@ loop-less-6 c =
 
 loop-again-6 : tie.Need-loop-again-6 Inv-loop μ-loop
 loop-again-6 c =
-    let at-ask = c .before .before .before .before .before .before .before .before .before .before .before .before .before .before .before .before .before in
-    let at-tag = at-ask .before .before .before in
-    let at-step = at-tag .before .before in
-    serve-item _ _ _ _ _ _ _ _ (at-step .before .before .loop .inv) (at-step .step-at .ensures) (at-tag .st .given .1) (at-ask .ask-at .ensures)
-    (c .before .before .before .before .before .before .before .before .before .before .before .before .before .before .before .ask2 .given .1) (serves-clock _ _ _ (c .before .before .before .before .before .before .before .before .before .before .before .before .before .place-in .ensures) (c .before .before .before .before .before .before .before .before .before .before .before .place .given .1) (c .before .before .before .before .before .before .before .before .family3 .given .1) (c .before .before .before .before .before .clock-after .ensures) (c .before .before .before .clock-value .ensures))
+    let at-value = c .before .before .before in
+    let at-family = at-value .before .before .before .before .before in
+    let at-place = at-family .before .before .before in
+    let at-ask = at-place .before .before .before .before .before .before in
+    let at-step = at-ask .before .before .before .before .before in
+    serve-item _ _ _ _ _ _ _ _ (at-step .before .before .loop .inv) (at-step .step-at .ensures) (at-ask .before .before .before .st .given .1)
+    (at-ask .ask-at .ensures) (at-place .before .before .before .before .ask2 .given .1) (serves-clock _ _ _ (at-place .before .before .item-place .ensures)
+    (at-place .place .given .1) (at-family .outside3 .given .1) (at-value .before .before .clock-after .ensures) (at-value .clock-value .ensures))
     (c .before .before .put-pair3 .ensures)
 
 loop-less-7 : tie.Need-loop-less-7 Inv-loop μ-loop
@@ -274,11 +342,14 @@ loop-less-7 c =
 
 loop-again-7 : tie.Need-loop-again-7 Inv-loop μ-loop
 loop-again-7 c =
-    let at-ask = c .before .before .before .before .before .before .before .before .before .before .before .before .before .before .before .before .before in
-    let at-tag = at-ask .before .before .before in
-    let at-step = at-tag .before .before in
-    serve-item _ _ _ _ _ _ _ _ (at-step .before .before .loop .inv) (at-step .step-at .ensures) (at-tag .st .given .1) (at-ask .ask-at .ensures)
-    (c .before .before .before .before .before .before .before .before .before .before .before .before .before .before .before .ask2 .given .1) (serves-voltage _ _ _ (c .before .before .before .before .before .before .before .before .before .before .before .before .before .place-in .ensures) (c .before .before .before .before .before .before .before .before .before .before .before .place .given .1) (c .before .before .before .before .before .before .before .before .family4 .given .1) (c .before .before .before .before .before .voltage-after .ensures) (c .before .before .before .voltage-value .ensures))
+    let at-value = c .before .before .before in
+    let at-family = at-value .before .before .before .before .before in
+    let at-place = at-family .before .before .before in
+    let at-ask = at-place .before .before .before .before .before .before in
+    let at-step = at-ask .before .before .before .before .before in
+    serve-item _ _ _ _ _ _ _ _ (at-step .before .before .loop .inv) (at-step .step-at .ensures) (at-ask .before .before .before .st .given .1)
+    (at-ask .ask-at .ensures) (at-place .before .before .before .before .ask2 .given .1) (serves-voltage _ _ _ (at-place .before .before .item-place .ensures)
+    (at-place .place .given .1) (at-family .outside4 .given .1) (at-value .before .before .voltage-after .ensures) (at-value .voltage-value .ensures))
     (c .before .before .put-pair4 .ensures)
 
 loop-less-8 : tie.Need-loop-less-8 Inv-loop μ-loop
@@ -286,11 +357,15 @@ loop-less-8 c = search serve-less
 
 loop-again-8 : tie.Need-loop-again-8 Inv-loop μ-loop
 loop-again-8 c =
-    let at-ask = c .before .before .before .before .before .before .before .before .before .before .before .before .before .before .before .before in
+    let at-value = c .before .before .before .before in
+    let at-family = at-value .before .before .before in
+    let at-asked = at-family .before .before .before .before .before .before .before in
+    let at-ask = at-asked .before .before in
     let at-tag = at-ask .before .before .before in
     let at-step = at-tag .before .before in
     serve-item _ _ _ _ _ _ _ _ (at-step .before .before .loop .inv) (at-step .step-at .ensures) (at-tag .st .given .1) (at-ask .ask-at .ensures)
-    (c .before .before .before .before .before .before .before .before .before .before .before .before .before .before .ask2 .given .1) (serves-temperature _ _ _ (c .before .before .before .before .before .before .before .family5 .given .1) (c .before .before .before .before .temperature-value .ensures)) (c .before .before .put-pair5 .ensures)
+    (at-asked .ask2 .given .1)
+    (serves-temperature _ _ _ (at-family .outside5 .given .1) (at-value .temperature-value .ensures)) (c .before .before .put-pair5 .ensures)
 
 pub serve-tags-spec : {M : Type 1} → statement M
 serve-tags-spec =
@@ -317,17 +392,17 @@ serve-tags-spec =
     note-requires
     put-group-requires
     enum-known-ask-2
-    place-in-requires
+    item-place-requires
     enum-known-place
     enum-told-3
     absent-value-requires
     put-pair-requires
     loop-less
     loop-again
-    enum-known-family
+    enum-known-outside
     answer-fact-requires
     put-answer-requires
-    enum-known-family-2
+    enum-known-outside-2
     mul-power-after
     element-copy-out-power-after
     power-after-requires
@@ -335,7 +410,7 @@ serve-tags-spec =
     element-set-from-d
     power-value-requires
     put-pair-requires-2
-    enum-known-family-3
+    enum-known-outside-3
     mul-clock-after
     element-copy-out-clock-after
     clock-after-requires
@@ -343,7 +418,7 @@ serve-tags-spec =
     element-set-from-c
     clock-value-requires
     put-pair-requires-3
-    enum-known-family-4
+    enum-known-outside-4
     mul-voltage-after
     element-copy-out-voltage-after
     voltage-after-requires
@@ -351,7 +426,7 @@ serve-tags-spec =
     element-set-from-v
     voltage-value-requires
     put-pair-requires-4
-    enum-known-family-5
+    enum-known-outside-5
     temperature-value-requires
     put-pair-requires-5
     loop-less-2

@@ -5,14 +5,14 @@ use borrow.Author.Needs.{needs}
 use Rattle.table.specs.declared.kinds.OutsideTag.{OutsideTag}
 use Rattle.tags.specs.Named.{Named}
 use Rattle.tags.specs.declared.place.Place.{Place}
-use Rattle.tags.proofs.outside.place_in.Statement.{statement}
-use Rattle.tags.proofs.outside.place_in.Tie as tie
+use Rattle.tags.proofs.outside.item_place.Statement.{statement}
+use Rattle.tags.proofs.outside.item_place.Tie as tie
 
 of-tag : {k k′ : OutsideTag} {id : ℕ} {r : Place} → k ≡ k′ → Named k′ id r → Named k id r
 of-tag e n = rw e n
 
-pub place-in-spec : {M : Type 1} → statement M
-place-in-spec =
+pub item-place-spec : {M : Type 1} → statement M
+item-place-spec =
     tie.close
     (tie.spec
     (λ c. search needs) (λ c. search needs) (λ c κs. search needs) (λ c. search needs) (λ c κs. search needs) (λ c. search needs)
