@@ -10,9 +10,9 @@ use Rattle.answers.specs.Answer.{answerBytes}
 use Rattle.display.specs.Decision.{groupAnswer}
 use Rattle.display.specs.declared.decision.Decision.{Decision}
 
-abbrev pub answerLength : Facts → List ℕ → Decision → Entry → ℕ
-answerLength f line d e = elim (e .kind) [ Kind.Group t ↦ length (answerBytes f line (groupAnswer d t)) | Kind.Outside t ↦ e .answer ]
+abbrev pub groupAnswerLength : Facts → List ℕ → Decision → Entry → ℕ
+groupAnswerLength f line d e = elim (e .kind) [ Kind.Group t ↦ length (answerBytes f line (groupAnswer d t)) | Kind.Outside t ↦ e .answer ]
 
-pub lengths : (f : Facts) (line : List ℕ) (d : Decision) → map (answerLength f line d) groupTags ≡ map (λ (e : Entry). e .answer) groupTags
+pub lengths : (f : Facts) (line : List ℕ) (d : Decision) → map (groupAnswerLength f line d) groupTags ≡ map (λ (e : Entry). e .answer) groupTags
 unfolding groupTags answerBytes groupAnswer
 lengths f line d = refl

@@ -187,7 +187,7 @@ module _ (g : Decision) (m₀ : List ℕ) (size : ℕ) (b₀ : Board) (m : List 
             → Ahead g m₀ size b₀ m′ b′ o next
         serve-answer v em =
             serve-on (comes-outside g b o (requestOf m₀ t) (sym e ∙ asked₀)) (em ∙ ap (λ (y : Answer). answered (t .at) (t .size) (answerBytes (b .facts)
-            (b .line) y) m) (v .says)) (v .leaves) refl
+            (b .line) y) m) (v .says)) (v .left) refl
 
         pub serve-item : {n : ℕ} {b′ : Board} → Serves k a x b (Answer.Pair a n) b′ → {m′ : List ℕ} → m′ ≡ answered (t .at) (t .size) (le 4 a ++ le 4 n) m
             → Ahead g m₀ size b₀ m′ b′ o next

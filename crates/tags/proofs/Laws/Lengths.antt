@@ -36,10 +36,10 @@ outsideLength f n (OutsideTag.Temperature t) = n
 abbrev pub lengthOf : Facts → Entry → ℕ
 lengthOf f e = elim (e .kind) [ Kind.Outside t ↦ outsideLength f (e .answer) t | Kind.Group t ↦ e .answer ]
 
-abbrev pub answerLength : (a x : ℕ) → Board → Entry → ℕ
-answerLength a x b e = elim (e .kind) [ Kind.Outside t ↦ length (answerBytes (b .facts) (b .line) (outsideAnswer t a x b)) | Kind.Group t ↦ e .answer ]
+abbrev pub outsideAnswerLength : (a x : ℕ) → Board → Entry → ℕ
+outsideAnswerLength a x b e = elim (e .kind) [ Kind.Outside t ↦ length (answerBytes (b .facts) (b .line) (outsideAnswer t a x b)) | Kind.Group t ↦ e .answer ]
 
 pub lengths : (a x : ℕ) (b : Board) → length (b .facts .mac) ≡ 6 → b .facts .characters ≤ length (b .line)
-    → map (answerLength a x b) outsideTags ≡ map (lengthOf (b .facts)) outsideTags
+    → map (outsideAnswerLength a x b) outsideTags ≡ map (lengthOf (b .facts)) outsideTags
 unfolding outsideTags answerBytes outsideAnswer factAnswer
 lengths a x b mac line = rw (mac, length-take-le (b .facts .characters) (b .line) line)

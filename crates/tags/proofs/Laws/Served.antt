@@ -28,7 +28,7 @@ use Rattle.tags.specs.declared.place.Place.{Place}
 -- the tag says this answer and leaves the record b′
 pub record Serves (k : OutsideTag) (a x : ℕ) (b : Board) (answer : Answer) (b′ : Board) : Type 0 where
   pub says : answer ≡ outsideAnswer k a x b
-  pub leaves : b′ ≡ outsideAfter k a x b
+  pub left : b′ ≡ outsideAfter k a x b
 
 -- a place is within the items of its family
 pub within-items : {k : OutsideTag} {a : ℕ} {r : Place} → Named k a r → {k′ : OutsideTag} → k ≡ k′ → {i : ℕ} → r ≡ Place.At i → i < itemCount k′
@@ -39,20 +39,20 @@ module _ (a x : ℕ) (b : Board) where
   pub serves-unlisted : (k : OutsideTag) {r : Place} → Named k a r → r ≡ Place.Unlisted → {n : ℕ} → n ≡ absentValue k → Serves k a x b (Answer.Pair a n) b
   unfolding outsideAnswer outsideAfter
   serves-unlisted (OutsideTag.Fact t) p e en = absurd (true≢false cc)
-  serves-unlisted (OutsideTag.Power t) p e en = record { says = rw (← (p .is), e, power-absent t x noDevice refl, ← en); leaves = rw (← (p .is), e) }
-  serves-unlisted (OutsideTag.Clock t) p e en = record { says = rw (← (p .is), e, clock-absent t x noClock refl, ← en); leaves = rw (← (p .is), e) }
-  serves-unlisted (OutsideTag.Voltage t) p e en = record { says = rw (← (p .is), e, voltage-absent t x noVoltage refl, ← en); leaves = rw (← (p .is), e) }
+  serves-unlisted (OutsideTag.Power t) p e en = record { says = rw (← (p .is), e, power-absent t x noDevice refl, ← en); left = rw (← (p .is), e) }
+  serves-unlisted (OutsideTag.Clock t) p e en = record { says = rw (← (p .is), e, clock-absent t x noClock refl, ← en); left = rw (← (p .is), e) }
+  serves-unlisted (OutsideTag.Voltage t) p e en = record { says = rw (← (p .is), e, voltage-absent t x noVoltage refl, ← en); left = rw (← (p .is), e) }
   serves-unlisted (OutsideTag.Temperature t) p e en = absurd (true≢false cc)
 
   module _ {k : OutsideTag} where
     pub serves-fact : {t : FactTag} → k ≡ OutsideTag.Fact t → {answer : Answer} → answer ≡ factAnswer t (b .facts) → Serves k a x b answer b
     unfolding outsideAnswer outsideAfter
-    serves-fact ek e = rw ek (record { says = e; leaves = refl })
+    serves-fact ek e = rw ek (record { says = e; left = refl })
 
     pub serves-temperature : {t : TemperatureTag} → k ≡ OutsideTag.Temperature t → {n : ℕ} → n ≡ temperatureValue t a (b .temperature)
         → Serves k a x b (Answer.Pair a n) b
     unfolding outsideAnswer outsideAfter
-    serves-temperature ek e = rw ek (record { says = rw e; leaves = refl })
+    serves-temperature ek e = rw ek (record { says = rw e; left = refl })
 
     -- the item at the place
     module _ {r : Place} (p : Named k a r) {i : ℕ} (e : r ≡ Place.At i) where
@@ -63,15 +63,15 @@ module _ (a x : ℕ) (b : Board) where
           → n ≡ powerValue t d
           → Serves k a x b (Answer.Pair a n) (withDevices b (set (b .devices) i d))
       unfolding outsideAnswer outsideAfter
-      serves-power {t} ek ed en = let q = placed (OutsideTag.Power t) ek in rw ek (record { says = rw (q, ← ed, ← en); leaves = rw (q, ← ed) })
+      serves-power {t} ek ed en = let q = placed (OutsideTag.Power t) ek in rw ek (record { says = rw (q, ← ed, ← en); left = rw (q, ← ed) })
 
       pub serves-clock : {t : ClockTag} → k ≡ OutsideTag.Clock t → {c : Clock} → c ≡ clockAfter t x (getD (b .clocks) i noClock) → {n : ℕ} → n ≡ clockValue t c
           → Serves k a x b (Answer.Pair a n) (withClocks b (set (b .clocks) i c))
       unfolding outsideAnswer outsideAfter
-      serves-clock {t} ek ec en = let q = placed (OutsideTag.Clock t) ek in rw ek (record { says = rw (q, ← ec, ← en); leaves = rw (q, ← ec) })
+      serves-clock {t} ek ec en = let q = placed (OutsideTag.Clock t) ek in rw ek (record { says = rw (q, ← ec, ← en); left = rw (q, ← ec) })
 
       pub serves-voltage : {t : VoltageTag} → k ≡ OutsideTag.Voltage t → {v : Voltage} → v ≡ voltageAfter t x (getD (b .voltages) i noVoltage) → {n : ℕ}
           → n ≡ voltageValue t v
           → Serves k a x b (Answer.Pair a n) (withVoltages b (set (b .voltages) i v))
       unfolding outsideAnswer outsideAfter
-      serves-voltage {t} ek ev en = let q = placed (OutsideTag.Voltage t) ek in rw ek (record { says = rw (q, ← ev, ← en); leaves = rw (q, ← ev) })
+      serves-voltage {t} ek ev en = let q = placed (OutsideTag.Voltage t) ek in rw ek (record { says = rw (q, ← ev, ← en); left = rw (q, ← ev) })
