@@ -10,4 +10,9 @@ clock-value-spec =
     (tie.spec
     (λ c. search needs) (λ c κs. search needs) (λ c. search needs) (λ c κs. search needs) (λ c. search needs) (λ c κs. search needs)
     (λ c. search needs) (λ c κs. search needs) (λ c. search needs) (λ c κs. search needs) (λ c. search needs) (λ c κs. search needs)
-    (λ c. cc) (λ c. cc) (λ c. cc) (λ c. cc) (λ c. cc) (λ c. cc))
+    (λ c. rw (c .before .enum-told .given .1) (c .state-of .ensures))
+    (λ c. rw (c .before .enum-told2 .given .1) (c .state-of2 .ensures))
+    (λ c. rw (c .before .enum-told3 .given .1) (c .if-present .ensures))
+    (λ c. rw (c .before .enum-told4 .given .1) (c .if-present2 .ensures))
+    (λ c. rw (c .before .enum-told5 .given .1) (c .if-present3 .ensures))
+    (λ c. rw (c .before .enum-told6 .given .1) (c .if-present4 .ensures)))

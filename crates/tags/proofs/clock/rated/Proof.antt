@@ -8,11 +8,11 @@ clamped-requires c κs = search needs
 
 returns : tie.Need-returns
 unfolding settled
-returns c = cc
+returns c = rw (c .clamped .ensures, c .before .if1 .taken)
 
 returns-2 : tie.Need-returns-2
 unfolding settled
-returns-2 c = cc
+returns-2 c = rw (c .if1 .left)
 
 pub rated-spec : {M : Type 1} → statement M
 rated-spec = tie.close (tie.spec clamped-requires returns returns-2)

@@ -9,4 +9,6 @@ power-value-spec =
     tie.close
     (tie.spec
     (λ c. search needs) (λ c κs. search needs) (λ c. search needs) (λ c κs. search needs) (λ c. search needs) (λ c κs. search needs)
-    (λ c. cc) (λ c. cc) (λ c. cc))
+    (λ c. rw (c .before .enum-told .given .1) (c .state-of .ensures))
+    (λ c. rw (c .before .enum-told2 .given .1) (c .if-present .ensures))
+    (λ c. rw (c .before .enum-told3 .given .1) (c .state-of2 .ensures)))

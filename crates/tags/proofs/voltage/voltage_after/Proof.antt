@@ -8,5 +8,10 @@ unfolding voltageAfter
 voltage-after-spec =
     tie.close
     (tie.spec
-    (λ c. search needs) (λ c κs. search needs) (λ c. cc) (λ c. search needs) (λ c. search needs) (λ c. search needs)
-    (λ c. cc) (λ c. cc) (λ c. cc) (λ c. cc))
+    (λ c. search needs) (λ c κs. search needs)
+    (λ c. rw (c .before .before .enum-told .given .1, c .clamped .ensures, c .before .if1 .taken))
+    (λ c. search needs) (λ c. search needs) (λ c. search needs)
+    (λ c. rw (c .before .enum-told .given .1, c .if1 .left))
+    (λ c. rw (c .enum-told2 .given .1))
+    (λ c. rw (c .enum-told3 .given .1))
+    (λ c. rw (c .enum-told4 .given .1)))

@@ -9,4 +9,8 @@ voltage-value-spec =
     tie.close
     (tie.spec
     (λ c. search needs) (λ c. search needs) (λ c. search needs) (λ c κs. search needs) (λ c. search needs) (λ c κs. search needs)
-    (λ c. cc) (λ c. cc) (λ c. cc) (λ c. cc) (λ c. cc))
+    (λ c. rw (c .enum-told .given .1, c .before .before .if1 .taken))
+    (λ c. rw (c .enum-told2 .given .1, c .before .before .if1 .taken))
+    (λ c. rw (c .before .enum-told3 .given .1, c .before .before .before .if1 .taken) (c .max-offset .ensures))
+    (λ c. rw (c .before .enum-told4 .given .1, c .before .before .before .if1 .taken) (c .min-offset .ensures))
+    (λ c. rw (c .if1 .left)))
