@@ -1,5 +1,5 @@
 -- What a tag asks, case by case.
-use mathlib.Core.Bool.{false}
+use mathlib.Core.Bool.{Bool, true, false}
 use mathlib.Core.List.{List}
 use mathlib.Core.Path.{_≡_, refl, sym, _∙_}
 use Prim.Native.Nat.{ℕ, _+_, _%_, _≤_, _<_}
@@ -19,7 +19,7 @@ use Rattle.table.specs.declared.kinds.Kind.{Kind}
 use Rattle.table.specs.declared.kinds.OutsideTag.{OutsideTag}
 use Rattle.table.specs.declared.rows.Row.{Row}
 use Rattle.requests.specs.Ask.{askOf, RequestFits}
-use Rattle.requests.specs.Requests.{requestBy, requestOf, valueOf, asks}
+use Rattle.requests.specs.Requests.{isResponse, requestBy, requestOf, valueOf, asks}
 use Rattle.requests.specs.declared.ask.Ask.{Ask}
 
 -- ---- a word of a request
@@ -39,14 +39,19 @@ module _ (m : List ℕ) (t : Tag) where
   unfolding requestOf requestBy askOf
   ask-response h = rw (le-leb 0x8000_0000 (t .word) h)
 
+  -- whatever its tag word is
+  pub ask-unknown : {row : Row} → row ≡ rowOf (t .id) → row ≡ Row.Unknown → Ask.Pass ≡ askOf (requestOf m t)
+  unfolding requestOf requestBy askOf
+  ask-unknown er e = rw (← er, e) (of-word (isResponse (t .word)))
+    where
+      of-word : (response : Bool) → Ask.Pass ≡ askOf (requestBy response Row.Unknown (t .size) (valueOf m t))
+      of-word true = refl
+      of-word false = refl
+
   module _ (h : t .word < 0x8000_0000) {row : Row} (er : row ≡ rowOf (t .id)) where
     request-is : requestOf m t ≡ requestBy false row (t .size) (valueOf m t)
     unfolding requestOf
     request-is = rw (lt-leb 0x8000_0000 (t .word) h, ← er)
-
-    pub ask-unknown : row ≡ Row.Unknown → Ask.Pass ≡ askOf (requestOf m t)
-    unfolding requestBy askOf
-    ask-unknown e = rw (request-is, e)
 
     module _ {kind : Kind} {count : ℕ} (e : row ≡ Row.Known kind count) where
       pub ask-short : t .size < count → Ask.Short ≡ askOf (requestOf m t)

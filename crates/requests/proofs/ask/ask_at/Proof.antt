@@ -6,7 +6,7 @@ use Rattle.requests.proofs.ask.ask_at.Statement.{statement}
 use Rattle.requests.proofs.ask.ask_at.Tie as tie
 
 returns : tie.Need-returns
-returns c = search ask-response
+returns c = ask-response _ _ (omega (arith, c .if1 .taken))
 
 row-of-requires : tie.Need-row-of-requires
 row-of-requires c κs = search needs
@@ -20,7 +20,7 @@ enum-told c = search needs
 returns-2 : tie.Need-returns-2
 returns-2 c =
     let at-row-of = c .before .before in
-    ask-unknown _ _ (at-row-of .before .if1 .left) (at-row-of .row-of .ensures) (c .enum-told .given .1)
+    ask-unknown _ _ (at-row-of .row-of .ensures) (c .enum-told .given .1)
 
 cast-if2 : tie.Need-cast-if2
 cast-if2 c = search needs
