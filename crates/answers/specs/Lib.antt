@@ -1,3 +1,2 @@
 pub mod Answer
 pub mod Reply
-pub mod Helpers

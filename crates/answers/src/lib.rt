@@ -1,4 +1,3 @@
-// Answers of tags: what they are, their first bytes stored into a value, and the whole written into
-// its message.
+// Answers of tags: their first bytes stored into a value, and the whole written into its message.
 pub mod answer;
 pub mod reply;

@@ -14,8 +14,8 @@ use Rattle.message.specs.declared.walk.Tag.{Tag}
 use Rattle.answers.specs.Reply.{answered}
 use Rattle.requests.proofs.Laws.Endings.{ending-outcome}
 use Rattle.responder.proofs.Laws.Written.{writes-length}
-use Rattle.responder.specs.Answers.{Said, silent, says}
 use Rattle.responder.specs.Reply.{writeAll, codeOf, served, reply}
+use Rattle.responder.specs.Turns.{Said, silent, says}
 use Rattle.demands.proofs.Laws.Replied.{Replied, untouched, walked, replied, clash}
 use Rattle.demands.specs.Changes.{Outside, Unanswered, trailOf, answersOf, Changes, Lengths, Refusals}
 
@@ -24,7 +24,8 @@ put-outside : (p : ℕ) (bs m : List ℕ) (i n : ℕ) → length bs ≡ n → Ou
 put-outside p bs m i n e (inl h) = put-before p bs m i h
 put-outside p bs m i n e (inr h) = put-after p bs m i (omega arith)
 
-answered-outside : (at size : ℕ) (answer m : List ℕ) (i : ℕ) → Outside i (at + wordPlace) 4 → Outside i (at + tagHeader) (min (length answer) size) → getD (answered at size answer m) i 0 ≡ getD m i 0
+answered-outside : (at size : ℕ) (answer m : List ℕ) (i : ℕ) → Outside i (at + wordPlace) 4 → Outside i (at + tagHeader) (min (length answer) size)
+    → getD (answered at size answer m) i 0 ≡ getD m i 0
 unfolding answered
 answered-outside at size answer m i w v =
     let l : length (take size answer) ≡ min (length answer) size = simp length-take (omega arith) in
@@ -44,7 +45,9 @@ changes b m i c u = go (replied b m)
   where
     go : Replied b m → getD (reply b m .bytes) i 0 ≡ getD m i 0
     go (untouched o e f) = rw e
-    go (walked v g e) = rw e (put-outside codePlace (le 4 (codeOf (trailOf m .ending .outcome))) (writeAll (trailOf m .tags) (answersOf b m) m) i 4 refl c ∙ writes-outside (trailOf m .tags) (answersOf b m) m i u)
+    go (walked v g e) =
+        rw e (put-outside codePlace (le 4 (codeOf (trailOf m .ending .outcome))) (writeAll (trailOf m .tags) (answersOf b m) m) i 4 refl c ∙
+        writes-outside (trailOf m .tags) (answersOf b m) m i u)
 
 pub lengths : Lengths
 unfolding served
@@ -52,7 +55,9 @@ lengths b m = go (replied b m)
   where
     go : Replied b m → length (reply b m .bytes) ≡ length m
     go (untouched o e f) = rw e
-    go (walked v g e) = rw e (length-put codePlace (le 4 (codeOf (trailOf m .ending .outcome))) (writeAll (trailOf m .tags) (answersOf b m) m) ∙ writes-length (trailOf m .tags) (answersOf b m) m)
+    go (walked v g e) =
+        rw e (length-put codePlace (le 4 (codeOf (trailOf m .ending .outcome))) (writeAll (trailOf m .tags) (answersOf b m) m) ∙ writes-length
+        (trailOf m .tags) (answersOf b m) m)
 
 pub refusals : Refusals
 unfolding served

@@ -11,4 +11,5 @@ pub listing : Listing
 listing buffer adds words starts finishes =
     let r = ran adds buffer (started buffer .cursor) words in
     let h : Holds (run buffer adds .bytes) header (run buffer adds .taken) (run buffer adds .cursor .at) = rw (started-at buffer starts) at (r .holds) in
-    lists (request buffer adds .bytes) (run buffer adds .cursor .at) (run buffer adds .taken) (whole (run buffer adds .bytes) (run buffer adds .cursor) (run buffer adds .taken) h finishes)
+    lists (request buffer adds .bytes) (run buffer adds .cursor .at) (run buffer adds .taken) (whole (run buffer adds .bytes)
+    (run buffer adds .cursor) (run buffer adds .taken) h finishes)

@@ -1,4 +1,5 @@
--- The premises of `Listing` can be met: the request that sets 640 x 480 at depth 24, built in a buffer of other bytes, with three adds among its own that are refused.
+-- The premises of `Listing` can be met: the request that sets 640 x 480 at depth 24, built in a buffer of other bytes, with
+-- three adds among its own that are refused.
 use mathlib.Core.List.{List, [], _∷_, _++_}
 use mathlib.Core.Path.{_≡_, refl}
 use Prim.Native.Nat.{ℕ}

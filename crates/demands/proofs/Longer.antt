@@ -16,26 +16,29 @@ use Rattle.message.specs.Reader.{unmet, isAnswered, stored, judgedBy, judged, w
 use Rattle.message.specs.declared.reader.Reading.{Reading}
 use Rattle.message.specs.declared.walk.Ending.{Ending}
 use Rattle.message.specs.declared.walk.Tag.{Tag}
+use Rattle.board.specs.Record.{withDisplay}
 use Rattle.board.specs.declared.record.Board.{Board}
 use Rattle.display.specs.declared.decision.Decision.{Decision}
-use Rattle.requests.specs.Requests.{Request, trail}
-use Rattle.responder.specs.Answers.{Said, silent, says, groupOf, answers, after}
-use Rattle.responder.specs.Reply.{withDisplay, served, reply}
+use Rattle.requests.specs.Requests.{trail}
+use Rattle.responder.specs.Answers.{groupOf, turnOf, after}
+use Rattle.responder.specs.Reply.{served, reply}
+use Rattle.responder.specs.Turns.{Said, silent, says, Turns, turns}
 use Rattle.responder.specs.declared.respond.Served.{Served}
-use Rattle.demands.proofs.Laws.Alike.{requests-same, walk-done, Pair, paired-after, paired-words, At, alike-at, alike-length, alike-occurrence}
+use Rattle.demands.proofs.Laws.Alike.{requests-same, walk-done, SameHeader, paired-after, paired-words, At, alike-at, alike-length, alike-occurrence}
 use Rattle.demands.proofs.Laws.Replied.{Replied, untouched, walked, replied, clash}
 use Rattle.demands.proofs.ReadingBack.{reads, found-left}
 use Rattle.demands.proofs.Walked.{walked-is, bytes-are}
-use Rattle.demands.specs.Changes.{trailOf, answersOf}
-use Rattle.demands.specs.Longer.{Alike, storedAt, Shown, Same, Longer}
-use Rattle.demands.specs.ReadingBack.{tagOf, occurrence, saidAt, readingOf, ReadsAnswer}
-use Rattle.demands.specs.Walked.{tagsAfter, walkOf, Six}
+use Rattle.demands.specs.Changes.{trailOf, decisionOf, answersOf}
+use Rattle.demands.specs.Longer.{Alike, Shown, Same, Longer}
+use Rattle.demands.specs.ReadingBack.{tagOf, occurrence, saidAt, readingOf, storedAt, ReadsAnswer}
+use Rattle.demands.specs.Walked.{tagsAfter, walkOf}
 
 -- ---- a faultless request
 record Faultless (b : Board) (m : List ℕ) : Type 0 where
   pub ending : trailOf m .ending .outcome ≡ done
-  pub board : reply b m .answer .board ≡ withDisplay (after b (trailOf m .requests)) (groupOf (b .display) (trailOf m .ending) (trailOf m .requests) .display)
-  pub found-is : Six b → (id n wanted : ℕ) → found (reply b m .bytes) id n wanted ≡ foundIn id n wanted (record { tags = tagsAfter (walkOf m .tags) (answersOf b m); ending = walkOf m .ending })
+  pub board : reply b m .answer .board ≡ withDisplay (after (decisionOf b m) b (trailOf m .requests)) (decisionOf b m .display)
+  pub found-is : (id n wanted : ℕ)
+      → found (reply b m .bytes) id n wanted ≡ foundIn id n wanted (record { tags = tagsAfter (walkOf m .tags) (answersOf b m); ending = walkOf m .ending })
 
 faultless : (b : Board) (m : List ℕ) → reply b m .answer .outcome ≡ done → Faultless b m
 unfolding served
@@ -46,7 +49,8 @@ faultless b m d = go (replied b m)
     go (walked v g e) = record {
       ending = sym (ap (λ (r : Call Served). r .answer .outcome) e) ∙ d;
       board = ap (λ (r : Call Served). r .answer .board) e;
-      found-is = λ six id n wanted. ap (λ (x : List ℕ). found x id n wanted) (ap (λ (r : Call Served). r .bytes) e ∙ bytes-are b m six v g) ∙ found-left b m six v g id n wanted;
+      found-is = λ id n wanted. ap (λ (x : List ℕ). found x id n wanted) (ap (λ (r : Call Served). r .bytes) e ∙ bytes-are b m g) ∙ found-left b m g
+          id n wanted;
     }
 
 -- ---- refusals of paired tags
@@ -54,7 +58,7 @@ record RefusedAlike (r r′ : Reading) : Type 0 where
   pub missing : r .outcome ≡ noSuchTag → r′ .outcome ≡ noSuchTag
   pub passed : r .outcome ≡ notAnswered → r′ .outcome ≡ notAnswered
 
-judged-alike : (t u : Tag) (wanted : ℕ) → Pair t u → RefusedAlike (judged t wanted) (judged u wanted)
+judged-alike : (t u : Tag) (wanted : ℕ) → SameHeader t u → RefusedAlike (judged t wanted) (judged u wanted)
 unfolding judged
 judged-alike t u wanted p = go (isAnswered t) (isAnswered u) (ltb (stored t) wanted) (ap (leb 0x8000_0000) (p .word))
   where
@@ -69,7 +73,8 @@ ends-alike e e′ d d′ =
     rw (unmet-end e d, unmet-end e′ d′) (record { missing = λ z. refl; passed = λ z. absurd (omega arith) })
 
 -- ---- the claim
-module _ (b : Board) (m m′ : List ℕ) (six : Six b) (d : reply b m .answer .outcome ≡ done) (d′ : reply b m′ .answer .outcome ≡ done) (a : Alike m m′ (walkOf m .tags) (walkOf m′ .tags)) where
+module _ (b : Board) (m m′ : List ℕ) (d : reply b m .answer .outcome ≡ done) (d′ : reply b m′ .answer .outcome ≡ done) (a : Alike m m′
+    (walkOf m .tags) (walkOf m′ .tags)) where
   f : Faultless b m
   f = faultless b m d
 
@@ -80,27 +85,30 @@ module _ (b : Board) (m m′ : List ℕ) (six : Six b) (d : reply b m .answer .o
   unfolding trail
   requests = requests-same m m′ (walkOf m .tags) (walkOf m′ .tags) (walkOf m .ending) (walkOf m′ .ending) a (f .ending) (f′ .ending)
 
-  group : groupOf (b .display) (trailOf m .ending) (trailOf m .requests) ≡ groupOf (b .display) (trailOf m′ .ending) (trailOf m′ .requests)
+  group : decisionOf b m ≡ decisionOf b m′
   unfolding groupOf
   group = rw (f .ending, f′ .ending, requests)
 
+  -- the turns of the two are the same
+  turns-are : turns (turnOf (decisionOf b m)) b (trailOf m .requests) ≡ turns (turnOf (decisionOf b m′)) b (trailOf m′ .requests)
+  turns-are =
+      ap (λ (g : Decision). turns (turnOf g) b (trailOf m .requests)) group ∙ ap (turns (turnOf (decisionOf b m′)) b) requests
+
   saids : answersOf b m ≡ answersOf b m′
-  saids =
-      ap (λ (g : Decision). answers g b (trailOf m .requests)) group
-      ∙ ap (answers (groupOf (b .display) (trailOf m′ .ending) (trailOf m′ .requests)) b) requests
+  saids = ap (λ (x : Turns Board). x .saids) turns-are
 
   board-same : reply b m .answer .board ≡ reply b m′ .answer .board
   board-same =
       f .board
-      ∙ ap (λ (g : Decision). withDisplay (after b (trailOf m .requests)) (g .display)) group
-      ∙ ap (λ (rs : List Request). withDisplay (after b rs) (groupOf (b .display) (trailOf m′ .ending) (trailOf m′ .requests) .display)) requests
+      ∙ ap (λ (x : Turns Board). withDisplay (x .state) (decisionOf b m .display)) turns-are
+      ∙ ap (λ (g : Decision). withDisplay (after (decisionOf b m′) b (trailOf m′ .requests)) (g .display)) group
       ∙ sym (f′ .board)
 
-  paired : Paired Pair (tagsAfter (walkOf m .tags) (answersOf b m)) (tagsAfter (walkOf m′ .tags) (answersOf b m′))
+  paired : Paired SameHeader (tagsAfter (walkOf m .tags) (answersOf b m)) (tagsAfter (walkOf m′ .tags) (answersOf b m′))
   paired = rw (← saids) (paired-after m m′ (walkOf m .tags) (walkOf m′ .tags) (answersOf b m) a)
 
   words-same : map (λ t. t .word) (walkOf (reply b m .bytes) .tags) ≡ map (λ t. t .word) (walkOf (reply b m′ .bytes) .tags)
-  words-same = rw (walked-is b m six (inl d), walked-is b m′ six (inl d′)) (paired-words paired)
+  words-same = rw (walked-is b m (inl d), walked-is b m′ (inl d′)) (paired-words paired)
 
   said-same : (i : ℕ) → saidAt b m i ≡ saidAt b m′ i
   said-same i = ap (λ (ss : List Said). getD ss i silent) saids
@@ -108,21 +116,26 @@ module _ (b : Board) (m m′ : List ℕ) (six : Six b) (d : reply b m .answer .o
   refused-alike : (id n wanted : ℕ) → RefusedAlike (found (reply b m .bytes) id n wanted) (found (reply b m′ .bytes) id n wanted)
   unfolding trail
   refused-alike id n wanted =
-      rw (f .found-is six id n wanted, f′ .found-is six id n wanted)
+      rw (f .found-is id n wanted, f′ .found-is id n wanted)
       (paired-found (λ t u p. p .id) RefusedAlike id n wanted wanted
-      (record { tags = tagsAfter (walkOf m .tags) (answersOf b m); ending = walkOf m .ending }) (record { tags = tagsAfter (walkOf m′ .tags) (answersOf b m′); ending = walkOf m′ .ending })
+      (record { tags = tagsAfter (walkOf m .tags) (answersOf b m); ending = walkOf m .ending }) (record {
+        tags = tagsAfter (walkOf m′ .tags)
+            (answersOf b m′);
+        ending = walkOf m′ .ending;
+      })
       (λ t u p. judged-alike t u wanted p)
-      (ends-alike (walkOf m .ending) (walkOf m′ .ending) (walk-done m (walkOf m .tags) (walkOf m .ending) (f .ending)) (walk-done m′ (walkOf m′ .tags) (walkOf m′ .ending) (f′ .ending))) paired)
+      (ends-alike (walkOf m .ending) (walkOf m′ .ending) (walk-done m (walkOf m .tags) (walkOf m .ending) (f .ending)) (walk-done m′ (walkOf m′ .tags)
+      (walkOf m′ .ending) (f′ .ending))) paired)
 
   module _ (i : ℕ) (l : i < length (walkOf m .tags)) (answer : List ℕ) (e : saidAt b m i ≡ says answer) where
     at : At (tagOf m i) (tagOf m′ i)
     at = alike-at m m′ (walkOf m .tags) (walkOf m′ .tags) i a
 
     first : ReadsAnswer b m i answer
-    first = reads b m six (inl d) .answered i l answer e
+    first = reads b m (inl d) .answered i l answer e
 
     second : ReadsAnswer b m′ i answer
-    second = reads b m′ six (inl d′) .answered i (rw (← (alike-length m m′ (walkOf m .tags) (walkOf m′ .tags) a)) l) answer (sym (said-same i) ∙ e)
+    second = reads b m′ (inl d′) .answered i (rw (← (alike-length m m′ (walkOf m .tags) (walkOf m′ .tags) a)) l) answer (sym (said-same i) ∙ e)
 
     longer : (n : ℕ) → n ≤ min (length answer) (tagOf m i .size) → n ≤ min (length answer) (tagOf m′ i .size)
     longer n q = let s = at .size in omega arith
@@ -150,7 +163,8 @@ module _ (b : Board) (m m′ : List ℕ) (six : Six b) (d : reply b m .answer .o
             record {
               outcome = ap (λ (x : Reading). x .outcome) r′;
               length = ap (λ (x : Reading). x .length) r ∙ sym (ap (λ (x : Reading). x .length) r′);
-              bytes = ap (λ (x : Reading). take wanted (drop (x .value) (reply b m .bytes))) r ∙ first .bytes wanted n ∙ sym (second .bytes wanted (longer wanted n)) ∙ sym (ap (λ (x : Reading). take wanted (drop (x .value) (reply b m′ .bytes))) r′);
+              bytes = ap (λ (x : Reading). take wanted (drop (x .value) (reply b m .bytes))) r ∙ first .bytes wanted n ∙ sym (second .bytes wanted
+                  (longer wanted n)) ∙ sym (ap (λ (x : Reading). take wanted (drop (x .value) (reply b m′ .bytes))) r′);
             }
 
   pub same : Same b m m′
@@ -165,4 +179,4 @@ module _ (b : Board) (m m′ : List ℕ) (six : Six b) (d : reply b m .answer .o
   }
 
 pub longer-is : Longer
-longer-is b m m′ p = same b m m′ (p .six) (p .faultless) (p .faultless′) (p .alike)
+longer-is b m m′ p = same b m m′ (p .faultless) (p .faultless′) (p .alike)

@@ -20,38 +20,37 @@ use Rattle.message.specs.Reader.{isResponse, judged, foundIn, found}
 use Rattle.message.specs.Sizes.{header, tagHeader, codePlace}
 use Rattle.message.specs.Walk.{walkFrom}
 use Rattle.message.specs.declared.opening.Opened.{Opened}
-use Rattle.board.specs.Valid.{valid}
 use Rattle.board.specs.declared.record.Board.{Board}
-use Rattle.responder.specs.Answers.{Said, silent, says, groupOf}
 use Rattle.responder.specs.Reply.{codeOf, reply}
-use Rattle.responder.proofs.Laws.Saids.{Short, saids-short, few-characters}
+use Rattle.responder.specs.Turns.{Said, silent, says}
+use Rattle.responder.proofs.Laws.Saids.{SaidFits, saids-fit}
+use Rattle.responder.proofs.Laws.Turns.{Each}
 use Rattle.responder.proofs.Laws.Written.{writes-length}
 use Rattle.demands.proofs.Laws.ReadBack.{nth-at, judged-shows, judged-lacks, value-written}
 use Rattle.demands.proofs.Laws.Replied.{Replied, untouched, walked, replied, clash}
 use Rattle.demands.proofs.Walked.{filled, code, whole, bytes-are, size-same, follows-whole}
-use Rattle.demands.specs.Changes.{trailOf, answersOf}
+use Rattle.demands.specs.Changes.{trailOf, decisionOf, answersOf}
 use Rattle.demands.specs.ReadingBack.{tagOf, occurrence, saidAt, Reads, ReadingBack}
-use Rattle.demands.specs.Walked.{tagAfter, tagsAfter, walkOf, Six}
+use Rattle.demands.specs.Walked.{tagAfter, tagsAfter, walkOf}
 
--- ---- each answer is short
-short-at : (ss : List Said) (i : ℕ) {answer : List ℕ} → Short ss → getD ss i silent ≡ says answer → length answer < 2 ^ 31
-short-at [] i h e = absurd (true≢false cc)
-short-at (silent ∷ ss) zero h e = absurd (true≢false cc)
-short-at (silent ∷ ss) (suc i) h e = short-at ss i h e
-short-at (says x ∷ ss) zero {answer} h e = let is : x ≡ answer = cc in rw is at (h .0)
-short-at (says x ∷ ss) (suc i) h e = short-at ss i (h .1) e
+-- ---- each answer fits
+fits-at : (ss : List Said) (i : ℕ) {answer : List ℕ} → Each SaidFits ss → getD ss i silent ≡ says answer → length answer < 2 ^ 31
+fits-at [] i h e = absurd (true≢false cc)
+fits-at (silent ∷ ss) zero h e = absurd (true≢false cc)
+fits-at (says x ∷ ss) zero {answer} h e = let is : x ≡ answer = cc in rw is at (h .0)
+fits-at (s ∷ ss) (suc i) h e = fits-at ss i (h .1) e
 
 -- ---- what the responder left, to the reader
-module _ (b : Board) (m : List ℕ) (six : Six b) (v : valid b ≡ true) (g : GoodSize (word m 0) (length m)) where
+module _ (b : Board) (m : List ℕ) (g : GoodSize (word m 0) (length m)) where
   abbrev left : List ℕ
-  left = whole b m six v g
+  left = whole b m g
 
   length-left : length left ≡ length m
-  length-left = length-put codePlace (code b m six v g) (filled b m six v g) ∙ writes-length (walkOf m .tags) (answersOf b m) m
+  length-left = length-put codePlace (code b m g) (filled b m g) ∙ writes-length (walkOf m .tags) (answersOf b m) m
 
   pub opens : opened left ≡ Opened.Good (record { size = word m 0 })
   opens =
-      let z = size-same b m six v g in
+      let z = size-same b m g in
       let n = length-left in
       let good : GoodSize (word left 0) (length left) = rw (z, n) g in
       opened-good left good ∙ ap (λ (x : ℕ). Opened.Good (record { size = x })) z
@@ -59,12 +58,12 @@ module _ (b : Board) (m : List ℕ) (six : Six b) (v : valid b ≡ true) (g : Go
   code-is : word left codePlace ≡ codeOf (trailOf m .ending .outcome)
   code-is = go (eqb (trailOf m .ending .outcome) done)
     where
-      n : length (filled b m six v g) ≡ length m
+      n : length (filled b m g) ≡ length m
       n = writes-length (walkOf m .tags) (answersOf b m) m
 
-      go : (c : Bool) → word (put codePlace (le 4 (cond c 0x8000_0000 0x8000_0001)) (filled b m six v g)) codePlace ≡ cond c 0x8000_0000 0x8000_0001
-      go true = let q = n in number-put 4 codePlace 0x8000_0000 (filled b m six v g) (omega arith) (omega arith)
-      go false = let q = n in number-put 4 codePlace 0x8000_0001 (filled b m six v g) (omega arith) (omega arith)
+      go : (c : Bool) → word (put codePlace (le 4 (cond c 0x8000_0000 0x8000_0001)) (filled b m g)) codePlace ≡ cond c 0x8000_0000 0x8000_0001
+      go true = let q = n in number-put 4 codePlace 0x8000_0000 (filled b m g) (omega arith) (omega arith)
+      go false = let q = n in number-put 4 codePlace 0x8000_0001 (filled b m g) (omega arith) (omega arith)
 
   pub response : isResponse (word left codePlace) ≡ true
   response = go (eqb (trailOf m .ending .outcome) done) code-is
@@ -74,42 +73,48 @@ module _ (b : Board) (m : List ℕ) (six : Six b) (v : valid b ≡ true) (g : Go
       go false e = response-fault e
 
   walk-left : walkFrom left (word m 0) header ≡ record { tags = tagsAfter (walkOf m .tags) (answersOf b m); ending = walkOf m .ending }
-  walk-left = follows-walk left (word m 0) header (tagsAfter (walkOf m .tags) (answersOf b m)) (walkOf m .ending) (follows-whole b m six v g)
+  walk-left = follows-walk left (word m 0) header (tagsAfter (walkOf m .tags) (answersOf b m)) (walkOf m .ending) (follows-whole b m g)
 
-  pub found-left : (id n wanted : ℕ) → found left id n wanted ≡ foundIn id n wanted (record { tags = tagsAfter (walkOf m .tags) (answersOf b m); ending = walkOf m .ending })
+  pub found-left : (id n wanted : ℕ)
+      → found left id n wanted ≡ foundIn id n wanted (record { tags = tagsAfter (walkOf m .tags) (answersOf b m); ending = walkOf m .ending })
   found-left id n wanted = found-response left opens response id n wanted ∙ ap (foundIn id n wanted) walk-left
 
-  judged-left : (i : ℕ) → i < length (walkOf m .tags) → (wanted : ℕ) → found left (tagOf m i .id) (occurrence m i) wanted ≡ judged (tagAfter (tagOf m i) (saidAt b m i)) wanted
+  judged-left : (i : ℕ) → i < length (walkOf m .tags) → (wanted : ℕ)
+      → found left (tagOf m i .id) (occurrence m i) wanted ≡ judged (tagAfter (tagOf m i) (saidAt b m i)) wanted
   judged-left i l wanted =
       found-judged left opens response (tagOf m i .id) (occurrence m i) wanted (tagAfter (tagOf m i) (saidAt b m i))
       (rw walk-left (nth-at (tagOf m i .id) (walkOf m .tags) (answersOf b m) i l refl))
 
-  saids : Short (answersOf b m)
-  saids = saids-short (groupOf (b .display) (trailOf m .ending) (trailOf m .requests)) b (trailOf m .requests) six (few-characters b v)
+  saids : Each SaidFits (answersOf b m)
+  saids = saids-fit (decisionOf b m) b (trailOf m .requests)
 
   value-left : (i : ℕ) → i < length (walkOf m .tags) → {answer : List ℕ} → saidAt b m i ≡ says answer → (k : ℕ) → k ≤ min (length answer) (tagOf m i .size)
       → take k (drop (tagOf m i .at + tagHeader) left) ≡ take k answer
   value-left i l e k q =
-      ap (take k) (drop-later header (tagOf m i .at + tagHeader) left (filled b m six v g) (omega arith) (drop-put codePlace (code b m six v g) (filled b m six v g) header (omega arith)))
+      ap (take k) (drop-later header (tagOf m i .at + tagHeader) left (filled b m g) (omega arith) (drop-put codePlace (code b m g) (filled b m g)
+      header (omega arith)))
       ∙ value-written m (word m 0) header (walkOf m .tags) (answersOf b m) (walkOf m .ending) (follows m (word m 0) header) (g .within) i l e k q
 
   module _ (is : reply b m .bytes ≡ left) where
     pub reads-left : Reads b m
     reads-left = record {
       answered = λ i l answer e. record {
-        shows = λ wanted q. ap (λ (x : List ℕ). found x (tagOf m i .id) (occurrence m i) wanted) is ∙ judged-left i l wanted ∙ ap (λ (s : Said). judged (tagAfter (tagOf m i) s) wanted) e
-            ∙ judged-shows (tagOf m i) answer (short-at (answersOf b m) i saids e) wanted q;
+        shows = λ wanted q. ap (λ (x : List ℕ). found x (tagOf m i .id) (occurrence m i) wanted) is ∙ judged-left i l wanted ∙ ap (λ (s : Said).
+            judged (tagAfter (tagOf m i) s) wanted) e
+            ∙ judged-shows (tagOf m i) answer (fits-at (answersOf b m) i saids e) wanted q;
         bytes = λ wanted q. ap (λ (x : List ℕ). take wanted (drop (tagOf m i .at + tagHeader) x)) is ∙ value-left i l e wanted q;
-        fewer = λ wanted q. ap (λ (x : List ℕ). found x (tagOf m i .id) (occurrence m i) wanted) is ∙ judged-left i l wanted ∙ ap (λ (s : Said). judged (tagAfter (tagOf m i) s) wanted) e
-            ∙ judged-lacks (tagOf m i) answer (short-at (answersOf b m) i saids e) wanted q;
+        fewer = λ wanted q. ap (λ (x : List ℕ). found x (tagOf m i .id) (occurrence m i) wanted) is ∙ judged-left i l wanted ∙ ap (λ (s : Said).
+            judged (tagAfter (tagOf m i) s) wanted) e
+            ∙ judged-lacks (tagOf m i) answer (fits-at (answersOf b m) i saids e) wanted q;
       };
-      passed = λ i l e w wanted. ap (λ (x : List ℕ). found x (tagOf m i .id) (occurrence m i) wanted) is ∙ judged-left i l wanted ∙ ap (λ (s : Said). judged (tagAfter (tagOf m i) s) wanted) e
+      passed = λ i l e w wanted. ap (λ (x : List ℕ). found x (tagOf m i .id) (occurrence m i) wanted) is ∙ judged-left i l wanted ∙ ap (λ (s : Said).
+          judged (tagAfter (tagOf m i) s) wanted) e
           ∙ sym (judged-not-answered (tagOf m i) wanted w refl);
     }
 
 pub reads : ReadingBack
-reads b m six w = go (replied b m)
+reads b m w = go (replied b m)
   where
     go : Replied b m → Reads b m
     go (untouched o e f) = absurd (clash (reply b m .answer .outcome) w o)
-    go (walked v g e) = reads-left b m six v g (ap (λ (r : _). r .bytes) e ∙ bytes-are b m six v g)
+    go (walked v g e) = reads-left b m g (ap (λ (r : _). r .bytes) e ∙ bytes-are b m g)

@@ -1,5 +1,4 @@
 -- The walk of a reply.
-use mathlib.Core.Bool.{true}
 use mathlib.Core.List.{List}
 use mathlib.Core.Path.{_≡_, sym, ap, _∙_}
 use Prim.Native.Nat.{ℕ}
@@ -13,19 +12,18 @@ use Rattle.message.proofs.Laws.Follows.{Follows, follows, follows-walk, follows
 use Rattle.message.proofs.Laws.Opening.{GoodSize}
 use Rattle.message.specs.Sizes.{header, codePlace}
 use Rattle.message.specs.Walk.{walkFrom}
-use Rattle.board.specs.Valid.{valid}
 use Rattle.board.specs.declared.record.Board.{Board}
 use Rattle.requests.specs.Requests.{trail}
-use Rattle.responder.specs.Answers.{groupOf}
+use Rattle.responder.specs.Answers.{turnOf}
 use Rattle.responder.specs.Reply.{writeAll, codeOf, served, reply}
-use Rattle.responder.proofs.Laws.Saids.{saids-short, few-characters}
+use Rattle.responder.proofs.Laws.Saids.{saids-fit}
 use Rattle.responder.proofs.Laws.Written.{cut-writes, writes-before}
 use Rattle.demands.proofs.Laws.Replied.{Replied, untouched, walked, replied, clash}
 use Rattle.demands.proofs.Laws.Rewritten.{follows-written}
-use Rattle.demands.specs.Changes.{trailOf, answersOf}
+use Rattle.demands.specs.Changes.{trailOf, decisionOf, answersOf}
 use Rattle.demands.specs.Walked.{tagsAfter, walkOf, Walked}
 
-module _ (b : Board) (m : List ℕ) (six : length (b .facts .mac) ≡ 6) (v : valid b ≡ true) (g : GoodSize (word m 0) (length m)) where
+module _ (b : Board) (m : List ℕ) (g : GoodSize (word m 0) (length m)) where
   -- what is written, and with the code word
   abbrev pub filled : List ℕ
   filled = writeAll (walkOf m .tags) (answersOf b m) m
@@ -40,20 +38,22 @@ module _ (b : Board) (m : List ℕ) (six : length (b .facts .mac) ≡ 6) (v : va
   unfolding served trail
   bytes-are =
       ap (put codePlace code)
-      (cut-writes (groupOf (b .display) (trailOf m .ending) (trailOf m .requests)) b m (walkOf m .tags) (walkOf m .ending) m)
+      (cut-writes (turnOf (decisionOf b m)) b m (walkOf m .tags) (walkOf m .ending) m)
 
   before : take header filled ≡ take header m
   before = writes-before m (word m 0) header (walkOf m .tags) (answersOf b m) (walkOf m .ending) (follows m (word m 0) header)
 
   pub size-same : word whole 0 ≡ word m 0
   size-same =
-      number-before 4 0 codePlace whole filled (omega arith) (take-put codePlace codePlace code filled (omega arith)) ∙ number-before 4 0 header filled m (omega arith) before
+      number-before 4 0 codePlace whole filled (omega arith) (take-put codePlace codePlace code filled (omega arith)) ∙ number-before 4 0 header
+      filled m (omega arith) before
 
   pub follows-whole : Follows whole (word m 0) header (tagsAfter (walkOf m .tags) (answersOf b m)) (walkOf m .ending)
   follows-whole =
-      follows-same filled whole (word m 0) header (tagsAfter (walkOf m .tags) (answersOf b m)) (walkOf m .ending) (sym (drop-put codePlace code filled header (omega arith)))
+      follows-same filled whole (word m 0) header (tagsAfter (walkOf m .tags) (answersOf b m)) (walkOf m .ending) (sym (drop-put codePlace code filled
+      header (omega arith)))
       (follows-written m (word m 0) header (walkOf m .tags) (answersOf b m) (walkOf m .ending) (follows m (word m 0) header)
-      (saids-short (groupOf (b .display) (trailOf m .ending) (trailOf m .requests)) b (trailOf m .requests) six (few-characters b v)) (g .within))
+      (saids-fit (decisionOf b m) b (trailOf m .requests)) (g .within))
 
   pub walk-whole : walkOf whole ≡ record { tags = tagsAfter (walkOf m .tags) (answersOf b m); ending = walkOf m .ending }
   walk-whole =
@@ -61,8 +61,8 @@ module _ (b : Board) (m : List ℕ) (six : length (b .facts .mac) ≡ 6) (v : va
       ∙ follows-walk whole (word m 0) header (tagsAfter (walkOf m .tags) (answersOf b m)) (walkOf m .ending) follows-whole
 
 pub walked-is : Walked
-walked-is b m six w = go (replied b m)
+walked-is b m w = go (replied b m)
   where
     go : Replied b m → walkOf (reply b m .bytes) ≡ record { tags = tagsAfter (walkOf m .tags) (answersOf b m); ending = walkOf m .ending }
     go (untouched o e f) = absurd (clash (reply b m .answer .outcome) w o)
-    go (walked v g e) = rw (e, bytes-are b m six v g) (walk-whole b m six v g)
+    go (walked v g e) = rw (e, bytes-are b m g) (walk-whole b m g)

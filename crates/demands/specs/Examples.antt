@@ -1,9 +1,9 @@
 -- Worked examples on the bench record, as one statement over one list of cases.
 use mathlib.Core.Bool.{Bool, true, false, _&&_}
-use mathlib.Core.List.{List, [], _∷_, _++_}
+use mathlib.Core.List.{List, [], _∷_}
 use Prim.Native.Nat.{ℕ}
 use lib.Dec.{T, eqb}
-use Rattle.words.specs.Numbers.{le}
+use Rattle.words.specs.Numbers.{wordBytes}
 use Rattle.words.specs.All.{all}
 use Rattle.board.specs.Bench.{bench}
 use Rattle.board.specs.Display.{pitchOf}
@@ -17,11 +17,6 @@ pub data Case : Type 0 where
   pitches : (width depth pitch : ℕ) → Case
   offsets : (millivolts maximum minimum : ℕ) → Case
 
--- the bytes of words
-abbrev pub bytes : List ℕ → List ℕ
-bytes [] = []
-bytes (w ∷ ws) = le 4 w ++ bytes ws
-
 abbrev pub same : List ℕ → List ℕ → Bool
 same [] [] = true
 same [] (y ∷ ys) = false
@@ -30,21 +25,31 @@ same (x ∷ xs) (y ∷ ys) = eqb x y && same xs ys
 
 abbrev pub boardAfter : Board → List (List ℕ) → Board
 boardAfter b [] = b
-boardAfter b (m ∷ ms) = boardAfter (reply b (bytes m) .answer .board) ms
+boardAfter b (m ∷ ms) = boardAfter (reply b (wordBytes m) .answer .board) ms
 
 unfoldable pub right : Case → Bool
 right (serves earlier given outcome place gives) =
-    let r = reply (boardAfter bench earlier) (bytes given) in
-    eqb (r .answer .outcome) outcome && eqb (r .answer .place) place && same (r .bytes) (bytes gives)
+    let r = reply (boardAfter bench earlier) (wordBytes given) in
+    eqb (r .answer .outcome) outcome && eqb (r .answer .place) place && same (r .bytes) (wordBytes gives)
 right (pitches width depth pitch) = eqb (pitchOf width depth) pitch
 right (offsets millivolts maximum minimum) = eqb (maxOffset millivolts) maximum && eqb (minOffset millivolts) minimum
 
 -- 640 x 480, depth 24
 abbrev pub screen : List ℕ
-screen = 80 ∷ 0 ∷ 0x00048003 ∷ 8 ∷ 0 ∷ 640 ∷ 480 ∷ 0x00048004 ∷ 8 ∷ 0 ∷ 640 ∷ 480 ∷ 0x00048005 ∷ 4 ∷ 0 ∷ 24 ∷ 0 ∷ 0 ∷ 0 ∷ 0 ∷ []
+screen =
+    80 ∷ 0
+    ∷ 0x00048003 ∷ 8 ∷ 0 ∷ 640 ∷ 480
+    ∷ 0x00048004 ∷ 8 ∷ 0 ∷ 640 ∷ 480
+    ∷ 0x00048005 ∷ 4 ∷ 0 ∷ 24
+    ∷ 0 ∷ 0 ∷ 0 ∷ 0 ∷ []
 
 abbrev pub screenSet : List ℕ
-screenSet = 80 ∷ 0x80000000 ∷ 0x00048003 ∷ 8 ∷ 0x80000008 ∷ 640 ∷ 480 ∷ 0x00048004 ∷ 8 ∷ 0x80000008 ∷ 640 ∷ 480 ∷ 0x00048005 ∷ 4 ∷ 0x80000004 ∷ 24 ∷ 0 ∷ 0 ∷ 0 ∷ 0 ∷ []
+screenSet =
+    80 ∷ 0x80000000
+    ∷ 0x00048003 ∷ 8 ∷ 0x80000008 ∷ 640 ∷ 480
+    ∷ 0x00048004 ∷ 8 ∷ 0x80000008 ∷ 640 ∷ 480
+    ∷ 0x00048005 ∷ 4 ∷ 0x80000004 ∷ 24
+    ∷ 0 ∷ 0 ∷ 0 ∷ 0 ∷ []
 
 unfoldable pub cases : List Case
 cases =
@@ -52,7 +57,8 @@ cases =
     serves [] (12 ∷ 0 ∷ 0 ∷ []) 0 0 (12 ∷ 0x80000000 ∷ 0 ∷ [])
     -- B2: the settings of a screen; B3: then its buffer
     ∷ serves [] screen 0 0 screenSet
-    ∷ serves (screen ∷ []) (32 ∷ 0 ∷ 0x00040001 ∷ 8 ∷ 0 ∷ 16 ∷ 0 ∷ 0 ∷ []) 0 0 (32 ∷ 0x80000000 ∷ 0x00040001 ∷ 8 ∷ 0x80000008 ∷ 0x3C000000 ∷ 0x000E1000 ∷ 0 ∷ [])
+    ∷ serves (screen ∷ []) (32 ∷ 0 ∷ 0x00040001 ∷ 8 ∷ 0 ∷ 16 ∷ 0 ∷ 0 ∷ []) 0 0
+    (32 ∷ 0x80000000 ∷ 0x00040001 ∷ 8 ∷ 0x80000008 ∷ 0x3C000000 ∷ 0x000E1000 ∷ 0 ∷ [])
     -- B4, B5: pitches
     ∷ pitches 641 24 1952
     ∷ pitches 1 8 32
@@ -60,11 +66,14 @@ cases =
     ∷ offsets 1199 0xFFFFFFFF 0
     ∷ offsets 1226 1 2
     -- B8: a MAC address of six bytes in a value of four
-    ∷ serves [] (28 ∷ 0 ∷ 0x00010003 ∷ 4 ∷ 0 ∷ 0 ∷ 0 ∷ []) 0 0 (28 ∷ 0x80000000 ∷ 0x00010003 ∷ 4 ∷ 0x80000006 ∷ 0x4DEB27B8 ∷ 0 ∷ [])
+    ∷ serves [] (28 ∷ 0 ∷ 0x00010003 ∷ 4 ∷ 0 ∷ 0 ∷ 0 ∷ []) 0 0
+    (28 ∷ 0x80000000 ∷ 0x00010003 ∷ 4 ∷ 0x80000006 ∷ 0x4DEB27B8 ∷ 0 ∷ [])
     -- B9: a value size near 2^32
-    ∷ serves [] (24 ∷ 0 ∷ 0x00010003 ∷ 0xFFFFFFFD ∷ 0 ∷ 0 ∷ []) 5 8 (24 ∷ 0x80000001 ∷ 0x00010003 ∷ 0xFFFFFFFD ∷ 0 ∷ 0 ∷ [])
+    ∷ serves [] (24 ∷ 0 ∷ 0x00010003 ∷ 0xFFFFFFFD ∷ 0 ∷ 0 ∷ []) 5 8
+    (24 ∷ 0x80000001 ∷ 0x00010003 ∷ 0xFFFFFFFD ∷ 0 ∷ 0 ∷ [])
     -- B10: a rate above the clock's maximum
-    ∷ serves [] (32 ∷ 0 ∷ 0x00038002 ∷ 8 ∷ 0 ∷ 3 ∷ 2000000000 ∷ 0 ∷ []) 0 0 (32 ∷ 0x80000000 ∷ 0x00038002 ∷ 8 ∷ 0x80000008 ∷ 3 ∷ 1500000000 ∷ 0 ∷ [])
+    ∷ serves [] (32 ∷ 0 ∷ 0x00038002 ∷ 8 ∷ 0 ∷ 3 ∷ 2000000000 ∷ 0 ∷ []) 0 0
+    (32 ∷ 0x80000000 ∷ 0x00038002 ∷ 8 ∷ 0x80000008 ∷ 3 ∷ 1500000000 ∷ 0 ∷ [])
     ∷ []
 
 -- Every case comes out as it says.

@@ -3,7 +3,7 @@ use mathlib.Core.Bool.{true}
 use mathlib.Core.List.{List}
 use mathlib.Core.Path.{_≡_}
 use Prim.Native.Nat.{ℕ}
-use Rattle.board.specs.Valid.{valid}
+use Rattle.board.specs.Record.{valid}
 use Rattle.board.specs.declared.record.Board.{Board}
 use Rattle.responder.specs.Reply.{reply}
 

@@ -48,9 +48,17 @@ abbrev pub Words : List Add → Type 0
 Words [] = Unit {0}
 Words (a ∷ adds) = (a .id < 2 ^ 32) × (a .size < 2 ^ 32) × Words adds
 
--- the lister's i-th tag of m is the add: id, value size, tag word 0, and at its value offset the request bytes, then zeros to the value's size
+-- the lister's i-th tag of m is the add: id, value size, tag word 0, and at its value offset the request bytes, then
+-- zeros to the value's size
 pub record Shows (m : List ℕ) (i : ℕ) (a : Add) : Type 0 where
-  pub row : listed m i ≡ record { outcome = done; place = 0; id = a .id; size = a .size; word = 0; value = listed m i .value }
+  pub row : listed m i ≡ record {
+    outcome = done;
+    place = 0;
+    id = a .id;
+    size = a .size;
+    word = 0;
+    value = listed m i .value;
+  }
   pub value : take (a .size) (drop (listed m i .value) m) ≡ a .request ++ zeros (a .size - length (a .request))
 
 abbrev pub none : Add
@@ -61,7 +69,8 @@ pub record Lists (m : List ℕ) (adds : List Add) : Type 0 where
   pub each : (i : ℕ) → i < length adds → Shows m i (getD adds i none)
   pub last : (i : ℕ) → length adds ≤ i → listed m i ≡ unlisted noSuchTag 0
 
--- For any buffer and any adds: where start and finish are accepted, listing the finished message gives exactly the adds that were taken.
+-- For any buffer and any adds: where start and finish are accepted, listing the finished message gives exactly the adds
+-- that were taken.
 abbrev pub Listing : Type 0
 Listing =
     (buffer : List ℕ) (adds : List Add)

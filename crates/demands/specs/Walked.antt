@@ -1,4 +1,5 @@
--- The walk of a reply: the tags of the rewritten message are the tags of the request, each at its place with its id and value size; only answered tags have another word.
+-- The walk of a reply: the tags of the rewritten message are the tags of the request, each at its place with its id and
+-- value size; only answered tags have another word.
 use mathlib.Core.List.{List, [], _∷_}
 use mathlib.Core.Path.{_≡_}
 use Prim.Native.Nat.{ℕ, _+_}
@@ -9,8 +10,8 @@ use Rattle.message.specs.Walk.{Walk, walkFrom}
 use Rattle.message.specs.declared.walk.Tag.{Tag}
 use Rattle.board.specs.declared.record.Board.{Board}
 use Rattle.requests.specs.Requests.{Walks}
-use Rattle.responder.specs.Answers.{Said, silent, says}
 use Rattle.responder.specs.Reply.{reply}
+use Rattle.responder.specs.Turns.{Said, silent, says}
 use Rattle.demands.specs.Changes.{answersOf}
 
 -- a tag that says something has the word 0x80000000 + L; a silent one keeps its own
@@ -27,12 +28,11 @@ tagsAfter (t ∷ ts) (s ∷ ss) = tagAfter t s ∷ tagsAfter ts ss
 abbrev pub walkOf : List ℕ → Walk
 walkOf m = walkFrom m (word m 0) header
 
--- a MAC address has six bytes
-abbrev pub Six : Board → Type 0
-Six b = length (b .facts .mac) ≡ 6
-
--- Where the responder walked the message, the walk of what it left has the tags of the request, those that say something with their new word, and the same end.
+-- Where the responder walked the message, the walk of what it left has the tags of the request, those that say
+-- something with their new word, and the same end.
 abbrev pub Walked : Type 0
 Walked =
-    (b : Board) (m : List ℕ) → Six b → Walks (reply b m .answer .outcome)
-    → walkOf (reply b m .bytes) ≡ record { tags = tagsAfter (walkOf m .tags) (answersOf b m); ending = walkOf m .ending }
+    (b : Board) (m : List ℕ)
+    → Walks (reply b m .answer .outcome)
+    → walkOf (reply b m .bytes)
+    ≡ record { tags = tagsAfter (walkOf m .tags) (answersOf b m); ending = walkOf m .ending }

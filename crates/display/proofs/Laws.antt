@@ -1,4 +1,3 @@
-pub mod Align
 pub mod Decision
 pub mod Kept
 pub mod Lengths

@@ -1,60 +1,55 @@
 // What the tags of the group answer.
+//
+// No entry points: the walk above has found the tag at `at`, whose value has `size` bytes, in the message.
 use crate::decision::Decision;
-use answers::answer::Answer;
-use answers::reply::put_answer;
+use answers::reply::put_nothing;
+use answers::reply::put_pair;
+use answers::reply::put_word;
 use board::display::Settings;
-use board::facts::Facts;
 use table::kinds::FrameTag;
 use table::kinds::Setting;
 ghost use mathlib.Core.Path.{_≡_};
 ghost use lib.ListN.{length};
-ghost use Rattle.answers.specs.Helpers.{AnswerFits};
-ghost use Rattle.display.specs.Decision.{settingAnswer, groupAnswer};
-ghost use Rattle.display.specs.GroupPut.{groupPut};
+ghost use Rattle.message.specs.Helpers.{InMessage};
+ghost use Rattle.answers.specs.Reply.{answered};
+ghost use Rattle.display.specs.Decision.{settingAnswer};
+ghost use Rattle.display.specs.GroupPut.{FramePut, GroupPut};
 
-fn setting_answer(s: Settings, setting: Setting) -> Answer
-    ensures { λ r. ⌜ r ≡ settingAnswer setting s ⌝ }
+fn put_setting(msg: &mut [u8], at: usize, size: u32, s: Settings, setting: Setting)
+    requires { ⌜ InMessage (length (now msg)) at size ⌝ }
+    ensures { λ _. ⌜ now (msg .exit) ≡ answered at size (settingAnswer setting s) (now (msg .entry)) ⌝ }
 {
     match setting {
-        Setting::Physical => Answer::Pair(s.physical.width, s.physical.height),
-        Setting::Virtual => Answer::Pair(s.logical.width, s.logical.height),
-        Setting::Depth => Answer::Word(s.depth),
-        Setting::Order => Answer::Word(s.order),
-        Setting::Alpha => Answer::Word(s.alpha),
-        Setting::Offset => Answer::Pair(s.offset.x, s.offset.y),
+        Setting::Physical => put_pair(msg, at, size, s.physical.width, s.physical.height),
+        Setting::Virtual => put_pair(msg, at, size, s.logical.width, s.logical.height),
+        Setting::Depth => put_word(msg, at, size, s.depth),
+        Setting::Order => put_word(msg, at, size, s.order),
+        Setting::Alpha => put_word(msg, at, size, s.alpha),
+        Setting::Offset => put_pair(msg, at, size, s.offset.x, s.offset.y),
     }
 }
 
-// What a tag of the group answers. Get, test and set of a setting answer alike.
-fn group_answer(d: Decision, tag: FrameTag) -> Answer
-    ensures { λ r. ⌜ r ≡ groupAnswer d tag ⌝ }
+// Answers a tag of the group. Get, test and set of a setting answer alike.
+fn put_frame(msg: &mut [u8], at: usize, size: u32, d: Decision, tag: FrameTag)
+    requires { ⌜ InMessage (length (now msg)) at size ⌝ }
+    ensures { λ _. ⌜ FramePut d tag at size (now (msg .entry)) (now (msg .exit)) ⌝ }
 {
     match tag {
-        FrameTag::Get(setting) => setting_answer(d.shown, setting),
-        FrameTag::Test(setting) => setting_answer(d.shown, setting),
-        FrameTag::Set(setting) => setting_answer(d.shown, setting),
-        FrameTag::Pitch => Answer::Word(d.pitch),
-        FrameTag::Allocate => Answer::Pair(d.placed.base, d.placed.size),
-        FrameTag::Release => Answer::Nothing,
+        FrameTag::Get(setting) => put_setting(msg, at, size, d.shown, setting),
+        FrameTag::Test(setting) => put_setting(msg, at, size, d.shown, setting),
+        FrameTag::Set(setting) => put_setting(msg, at, size, d.shown, setting),
+        FrameTag::Pitch => put_word(msg, at, size, d.pitch),
+        FrameTag::Allocate => put_pair(msg, at, size, d.placed.base, d.placed.size),
+        FrameTag::Release => put_nothing(msg, at),
     }
 }
 
-// Answers the tag of the group at `at`, whose value has `size` bytes, where the decision says so. Facts
-// and command line are what `put_answer` asks for: no answer of the group is taken from them. No entry
-// point: the walk above has found the tag in the message.
-pub fn put_group(
-    msg: &mut [u8],
-    at: usize,
-    size: u32,
-    d: Decision,
-    tag: FrameTag,
-    facts: Facts,
-    line: &[u8],
-)
-    requires { ⌜ AnswerFits (length (now msg)) at size (length (now line)) ⌝ }
-    ensures { λ _. ⌜ now (msg .exit) ≡ groupPut d tag at size facts (now (line .entry)) (now (msg .entry)) ⌝ }
+// Answers a tag of the group where the decision says so.
+pub fn put_group(msg: &mut [u8], at: usize, size: u32, d: Decision, tag: FrameTag)
+    requires { ⌜ InMessage (length (now msg)) at size ⌝ }
+    ensures { λ _. ⌜ GroupPut d tag at size (now (msg .entry)) (now (msg .exit)) ⌝ }
 {
     if d.answered {
-        put_answer(msg, at, size, group_answer(d, tag), facts, line);
+        put_frame(msg, at, size, d, tag);
     }
 }

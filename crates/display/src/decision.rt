@@ -6,29 +6,23 @@ use board::facts::Span;
 use board::settings::is_supported;
 use board::settings::need;
 use board::settings::pitch;
+use words::align::lowest_multiple;
+use words::align::one_bit;
 ghost use mathlib.Core.Bool.{true, cond};
 ghost use mathlib.Core.Path.{_≡_};
-ghost use Rattle.words.specs.Round.{roundUp};
-ghost use Rattle.board.specs.Display.{possible, supported};
-ghost use Rattle.board.specs.Valid.{validDisplay};
-ghost use Rattle.display.specs.Decision.{nowhere, oneBit, placedAt, allocatable, fitsBuffer, accepted};
+ghost use Rattle.board.specs.Display.{possible, validDisplay};
+ghost use Rattle.display.specs.Decision.{nowhere, supportedFrom, placedAt, allocatable, fitsBuffer, accepted};
 ghost use Rattle.display.specs.Decision.{showing, leftAlone, tested, carriedOut, decided};
 
-// Whether the group's tags are answered, the settings, the pitch and the buffer that they answer,
-// and the display afterwards.
+// Whether the group's tags are answered, whether the operation was accepted, the settings, the pitch and the
+// buffer that they answer, and the display afterwards.
 pub struct Decision {
     pub answered: bool,
+    pub accepted: bool,
     pub shown: Settings,
     pub pitch: u32,
     pub placed: Span,
     pub display: Display,
-}
-
-// Whether an alignment has exactly one bit set.
-pub fn one_bit(a: u32) -> bool
-    ensures { λ r. ⌜ r ≡ oneBit a ⌝ }
-{
-    u32::count_ones(a) == 1
 }
 
 fn no_buffer() -> Span
@@ -37,13 +31,12 @@ fn no_buffer() -> Span
     Span { base: 0, size: 0 }
 }
 
-// The lowest multiple of the alignment at or above the base: it may pass 2^32.
-fn lowest_multiple(base: u32, alignment: u32) -> u64
-    requires { ⌜ oneBit alignment ≡ true ⌝ }
-    ensures { λ r. ⌜ r ≡ roundUp alignment base ⌝ }
+// Whether a proposal is supported, given the display's settings: they do not count.
+fn is_supported_from(d: Display, proposal: Settings) -> bool
+    ensures { λ r. ⌜ r ≡ supportedFrom d proposal ⌝ }
 {
-    let a = alignment as u64;
-    (base as u64 + (a - 1)) / a * a
+    let region = d.region;
+    is_supported(region.size, proposal)
 }
 
 fn is_allocatable(d: Display, o: Operation) -> bool
@@ -76,8 +69,7 @@ fn fits_buffer(d: Display, o: Operation) -> bool
 fn is_accepted(d: Display, o: Operation) -> bool
     ensures { λ r. ⌜ r ≡ accepted d o ⌝ }
 {
-    let region = d.region;
-    if is_supported(region.size, o.proposal) {
+    if is_supported_from(d, o.proposal) {
         if o.allocates {
             return is_allocatable(d, o);
         }
@@ -121,6 +113,7 @@ fn show(s: Settings, d: Display) -> Decision
 {
     Decision {
         answered: true,
+        accepted: false,
         shown: s,
         pitch: pitch(s),
         placed: no_buffer(),
@@ -140,10 +133,9 @@ pub fn leave(d: Display) -> Decision
 
 fn test(d: Display, o: Operation) -> Decision
     requires { ⌜ validDisplay d ≡ true ⌝ }
-    ensures { λ r. ⌜ r ≡ tested (supported (d .region .size) (o .proposal)) d o ⌝ }
+    ensures { λ r. ⌜ r ≡ tested (supportedFrom d (o .proposal)) d o ⌝ }
 {
-    let region = d.region;
-    if is_supported(region.size, o.proposal) {
+    if is_supported_from(d, o.proposal) {
         return show(o.proposal, d);
     }
     show(d.settings, d)
@@ -163,6 +155,7 @@ fn carry_out(d: Display, o: Operation) -> Decision
         buffer,
     };
     let mut decision = show(settings, display);
+    decision.accepted = true;
     decision.placed = placed;
     decision
 }

@@ -4,8 +4,9 @@ use board::display::Settings;
 use board::display::Size;
 use table::kinds::FrameTag;
 use table::kinds::Setting;
+use words::numbers::nth_word;
 ghost use mathlib.Core.Path.{_≡_};
-ghost use Rattle.display.specs.Operation.{withSetting, unasked, withOther, noted};
+ghost use Rattle.display.specs.Operation.{sizeOf, offsetOf, withSetting, unasked, withOther, noted};
 
 // What the group tags come to: whether there are tests, and others; the settings that they propose,
 // later over earlier; the last allocate's alignment; a release.
@@ -32,40 +33,52 @@ pub fn start(settings: Settings) -> Operation
     }
 }
 
-fn with_setting(mut s: Settings, setting: Setting, a: u32, b: u32) -> Settings
-    ensures { λ r. ⌜ r ≡ withSetting setting a b s ⌝ }
+fn size_of(request: &[u8]) -> Size
+    ensures { λ r. ⌜ r ≡ sizeOf (now (request .entry)) ⌝ }
+{
+    Size {
+        width: nth_word(request, 0),
+        height: nth_word(request, 1),
+    }
+}
+
+fn offset_of(request: &[u8]) -> Offset
+    ensures { λ r. ⌜ r ≡ offsetOf (now (request .entry)) ⌝ }
+{
+    Offset {
+        x: nth_word(request, 0),
+        y: nth_word(request, 1),
+    }
+}
+
+fn with_setting(mut s: Settings, setting: Setting, request: &[u8]) -> Settings
+    ensures { λ r. ⌜ r ≡ withSetting setting (now (request .entry)) s ⌝ }
 {
     match setting {
         Setting::Physical => {
-            let size = Size {
-                width: a,
-                height: b,
-            };
+            let size = size_of(request);
             s.physical = size;
             s
         }
         Setting::Virtual => {
-            let size = Size {
-                width: a,
-                height: b,
-            };
+            let size = size_of(request);
             s.logical = size;
             s
         }
         Setting::Depth => {
-            s.depth = a;
+            s.depth = nth_word(request, 0);
             s
         }
         Setting::Order => {
-            s.order = a;
+            s.order = nth_word(request, 0);
             s
         }
         Setting::Alpha => {
-            s.alpha = a;
+            s.alpha = nth_word(request, 0);
             s
         }
         Setting::Offset => {
-            let offset = Offset { x: a, y: b };
+            let offset = offset_of(request);
             s.offset = offset;
             s
         }
@@ -79,27 +92,27 @@ fn with_other(mut o: Operation) -> Operation
     o
 }
 
-// The operation with one tag more, a and b being its request's words.
-pub fn note(mut o: Operation, tag: FrameTag, a: u32, b: u32) -> Operation
-    ensures { λ r. ⌜ r ≡ noted tag a b o ⌝ }
+// The operation with one tag more, with its request.
+pub fn note(mut o: Operation, tag: FrameTag, request: &[u8]) -> Operation
+    ensures { λ r. ⌜ r ≡ noted tag (now (request .entry)) o ⌝ }
 {
     match tag {
         FrameTag::Get(_) => with_other(o),
         FrameTag::Test(setting) => {
-            let proposal = with_setting(o.proposal, setting, a, b);
+            let proposal = with_setting(o.proposal, setting, request);
             o.proposal = proposal;
             o.tests = true;
             o
         }
         FrameTag::Set(setting) => {
-            let proposal = with_setting(o.proposal, setting, a, b);
+            let proposal = with_setting(o.proposal, setting, request);
             o.proposal = proposal;
             with_other(o)
         }
         FrameTag::Pitch => with_other(o),
         FrameTag::Allocate => {
             o.allocates = true;
-            o.alignment = a;
+            o.alignment = nth_word(request, 0);
             with_other(o)
         }
         FrameTag::Release => {

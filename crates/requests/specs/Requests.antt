@@ -4,10 +4,10 @@ use mathlib.Core.List.{List, [], _∷_}
 use mathlib.Core.Logic.{_⊎_}
 use mathlib.Core.Path.{_≡_}
 use Prim.Native.Nat.{ℕ, _+_}
-use lib.Dec.{leb, ltb}
+use lib.Dec.{ltb}
 use lib.ListN.{take, drop}
-use Rattle.words.specs.Numbers.{word}
 use Rattle.message.specs.Outcomes.{done, noEnd, runsOver, shortRequest}
+use Rattle.message.specs.Reader.{isAnswered}
 use Rattle.message.specs.Sizes.{tagHeader}
 use Rattle.message.specs.Walk.{walkFrom}
 use Rattle.message.specs.declared.walk.Ending.{Ending}
@@ -19,35 +19,27 @@ use Rattle.table.specs.declared.rows.Row.{Row}
 -- a tag is passed over, has a value too short for its request, or asks something with its request bytes
 pub data Request : Type 0 where
   passed short : Request
-  asks : Kind → (bytes : List ℕ) → Request
+  asks : Kind → (request : List ℕ) → Request
 
 -- a tag's value
 abbrev pub valueOf : List ℕ → Tag → List ℕ
 valueOf m t = take (t .size) (drop (t .at + tagHeader) m)
 
--- bit 31 of a tag word is set; bits 0 to 30 of a request are ignored
-abbrev pub isResponse : ℕ → Bool
-isResponse word = leb 0x8000_0000 word
+-- a tag's request bytes, by its kind, the request length of its row, v and its value: the first of the value, to the
+-- request length
+unfoldable pub requestBytes : Kind → (length size : ℕ) → (value : List ℕ) → List ℕ
+requestBytes kind length size value = take length value
 
--- a tag's request bytes are the first of its value, to its request length
-abbrev pub requestBytes : (length : ℕ) → List ℕ → List ℕ
-requestBytes length value = take length value
-
--- the first and the second word of a request, 0 where it has none
-abbrev pub first : List ℕ → ℕ
-first bytes = word bytes 0
-
-abbrev pub second : List ℕ → ℕ
-second bytes = word bytes 4
-
--- a tag word with bit 31 set, or an unknown id: passed over
-unfoldable pub requestBy : (response : Bool) → Row → (size : ℕ) → List ℕ → Request
+-- a tag that came answered, with bit 31 of its word set, or an unknown id: passed over; bits 0 to 30 of a request's
+-- word are ignored
+unfoldable pub requestBy : (answered : Bool) → Row → (size : ℕ) → List ℕ → Request
 requestBy true row size value = passed
 requestBy false Row.Unknown size value = passed
-requestBy false (Row.Known kind length) size value = cond (ltb size length) short (asks kind (requestBytes length value))
+requestBy false (Row.Known kind length) size value =
+    cond (ltb size length) short (asks kind (requestBytes kind length size value))
 
 unfoldable pub requestOf : List ℕ → Tag → Request
-requestOf m t = requestBy (isResponse (t .word)) (rowOf (t .id)) (t .size) (valueOf m t)
+requestOf m t = requestBy (isAnswered t) (rowOf (t .id)) (t .size) (valueOf m t)
 
 -- the tags of a message up to its end or its first fault, what they ask for, and how the walk ends
 pub record Trail : Type 0 where
@@ -65,7 +57,7 @@ goesOn t r rest = record { tags = t ∷ rest .tags; requests = r ∷ rest .reque
 abbrev pub cutBy : Request → Tag → Trail → Trail
 cutBy short t rest = ends (record { outcome = shortRequest; place = t .at })
 cutBy passed t rest = goesOn t passed rest
-cutBy (asks k bytes) t rest = goesOn t (asks k bytes) rest
+cutBy (asks k request) t rest = goesOn t (asks k request) rest
 
 abbrev pub cut : List ℕ → List Tag → Ending → Trail
 cut m [] e = ends e

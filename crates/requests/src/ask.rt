@@ -6,31 +6,28 @@ use table::kinds::Kind;
 use table::kinds::OutsideTag;
 use table::rows::Row;
 use table::rows::row_of;
-use words::numbers::u32_at;
 ghost use mathlib.Core.Path.{_≡_};
-ghost use lib.ListN.{length, take, drop};
-ghost use Rattle.words.specs.Numbers.{word};
+ghost use lib.ListN.{length};
 ghost use Rattle.message.specs.Helpers.{InMessage};
-ghost use Rattle.requests.specs.Ask.{RequestFits, askOf};
-ghost use Rattle.requests.specs.Requests.{requestOf};
+ghost use Rattle.requests.specs.Ask.{askOf};
+ghost use Rattle.requests.specs.Requests.{requestBytes, requestOf};
 
-// What a tag asks, with the first two words of its request: outside the frame buffer group or of it.
+// What a tag asks, outside the frame buffer group or of it, and how many bytes of its value are its request.
 pub enum Ask {
     Pass,
     Short,
-    Outside(OutsideTag, u32, u32),
-    Group(FrameTag, u32, u32),
+    Outside(OutsideTag, usize),
+    Group(FrameTag, usize),
 }
 
-// The word at `at` of a request of `count` bytes whose value begins at `value`, 0 where it has none.
-fn word_of(msg: &[u8], value: usize, count: usize, at: usize) -> u32
-    requires { ⌜ RequestFits (length (now msg)) value count at ⌝ }
-    ensures { λ r. ⌜ r ≡ word (take count (drop value (now (msg .entry)))) at ⌝ }
+// How many bytes of a value are the request of a tag of this kind, `least` being the request length of its row.
+fn request_length(kind: Kind, least: usize, value: &[u8]) -> usize
+    ensures { λ r. ⌜ r ≡ length (requestBytes kind least (length (now (value .entry))) (now (value .entry))) ⌝ }
 {
-    if count <= at {
-        return 0;
+    if least <= value.len() {
+        return least;
     }
-    u32_at(msg, value + at)
+    value.len()
 }
 
 // What the tag asks. No entry point: the walk has found the tag in the message.
@@ -42,17 +39,17 @@ pub fn ask_at(msg: &[u8], tag: Tag) -> Ask
         return Ask::Pass;
     }
     let row = row_of(tag.id);
-    let Row::Known(kind, count) = row else {
+    let Row::Known(kind, least) = row else {
         return Ask::Pass;
     };
-    if (tag.size as usize) < count {
+    if (tag.size as usize) < least {
         return Ask::Short;
     }
     let value = tag.at + Message::TAG;
-    let a = word_of(msg, value, count, 0);
-    let x = word_of(msg, value, count, 4);
+    let end = value + tag.size as usize;
+    let count = request_length(kind, least, &msg[value..end]);
     match kind {
-        Kind::Outside(outside) => Ask::Outside(outside, a, x),
-        Kind::Group(frame) => Ask::Group(frame, a, x),
+        Kind::Outside(outside) => Ask::Outside(outside, count),
+        Kind::Group(frame) => Ask::Group(frame, count),
     }
 }

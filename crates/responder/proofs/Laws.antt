@@ -1,8 +1,8 @@
-pub mod Fixed
+pub mod Turns
 pub mod Saids
+pub mod GroupAlone
 pub mod Written
 pub mod Apart
-pub mod Group
 pub mod Twice
 pub mod Serving
 pub mod Responding

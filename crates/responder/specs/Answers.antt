@@ -1,27 +1,26 @@
 -- What the board answers: from the record and what is asked for, the answers and the record afterwards.
 use mathlib.Core.Bool.{Bool, true, false, cond}
 use mathlib.Core.List.{List, [], _∷_}
-use Prim.Native.Nat.{ℕ}
 use lib.Dec.{eqb}
 use Rattle.message.specs.Outcomes.{done}
 use Rattle.message.specs.declared.walk.Ending.{Ending}
 use Rattle.board.specs.declared.display.Display.{Display}
 use Rattle.board.specs.declared.record.Board.{Board}
 use Rattle.table.specs.declared.kinds.Kind.{Kind}
-use Rattle.answers.specs.Answer.{answerBytes}
 use Rattle.tags.specs.Outside.{outsideAnswer, outsideAfter}
 use Rattle.display.specs.Decision.{decided, leftAlone, groupAnswer}
 use Rattle.display.specs.Operation.{unasked, noted}
 use Rattle.display.specs.declared.decision.Decision.{Decision}
 use Rattle.display.specs.declared.operation.Operation.{Operation}
-use Rattle.requests.specs.Requests.{Request, passed, short, asks, first, second}
+use Rattle.requests.specs.Requests.{Request, passed, short, asks}
+use Rattle.responder.specs.Turns.{Said, silent, says, Turn, turns}
 
 -- ---- the frame buffer group: all its requests form one operation
 abbrev pub noteBy : Request → Operation → Operation
 noteBy passed o = o
 noteBy short o = o
-noteBy (asks (Kind.Outside t) bytes) o = o
-noteBy (asks (Kind.Group t) bytes) o = noted t (first bytes) (second bytes) o
+noteBy (asks (Kind.Outside t) request) o = o
+noteBy (asks (Kind.Group t) request) o = noted t request o
 
 abbrev pub operation : Operation → List Request → Operation
 operation o [] = o
@@ -36,33 +35,19 @@ groupBy false d o = leftAlone d
 unfoldable pub groupOf : Display → Ending → List Request → Decision
 groupOf d e rs = groupBy (eqb (e .outcome) done) d (operation (unasked (d .settings)) rs)
 
--- ---- the answers
--- a tag says nothing, or its whole answer
-pub data Said : Type 0 where
-  silent : Said
-  says : List ℕ → Said
+-- ---- the answers: the state is the record
+-- a tag outside the group answers from the record that the last one left, and leaves another; a group tag answers from
+-- the decision, unless the group is not answered
+unfoldable pub turnOf : Decision → Board → Request → Turn Board
+turnOf g b passed = record { said = silent; state = b }
+turnOf g b short = record { said = silent; state = b }
+turnOf g b (asks (Kind.Outside t) request) =
+    record { said = says (outsideAnswer t request b); state = outsideAfter t request b }
+turnOf g b (asks (Kind.Group t) request) =
+    record { said = cond (g .answered) (says (groupAnswer g t request)) silent; state = b }
 
--- a tag outside the group answers from the record that the last one left; a group tag from the decision, unless the
--- group is not answered
-unfoldable pub saidBy : Decision → Board → Request → Said
-saidBy g b passed = silent
-saidBy g b short = silent
-saidBy g b (asks (Kind.Outside t) bytes) =
-    says (answerBytes (b .facts) (b .line) (outsideAnswer t (first bytes) (second bytes) b))
-saidBy g b (asks (Kind.Group t) bytes) =
-    cond (g .answered) (says (answerBytes (b .facts) (b .line) (groupAnswer g t))) silent
-
-unfoldable pub afterBy : Board → Request → Board
-afterBy b passed = b
-afterBy b short = b
-afterBy b (asks (Kind.Outside t) bytes) = outsideAfter t (first bytes) (second bytes) b
-afterBy b (asks (Kind.Group t) bytes) = b
-
--- tags run in order, each on the record the last one left
 abbrev pub answers : Decision → Board → List Request → List Said
-answers g b [] = []
-answers g b (r ∷ rs) = saidBy g b r ∷ answers g (afterBy b r) rs
+answers g b rs = turns (turnOf g) b rs .saids
 
-abbrev pub after : Board → List Request → Board
-after b [] = b
-after b (r ∷ rs) = after (afterBy b r) rs
+abbrev pub after : Decision → Board → List Request → Board
+after g b rs = turns (turnOf g) b rs .state

@@ -11,13 +11,13 @@ use Rattle.message.specs.Outcomes.{done, notRequest, invalidBoard}
 use Rattle.message.specs.Sizes.{header, codePlace}
 use Rattle.message.specs.declared.opening.Opened.{Opened}
 use Rattle.message.specs.declared.walk.Tag.{Tag}
-use Rattle.board.specs.Valid.{valid}
-use Rattle.board.specs.declared.display.Display.{Display}
+use Rattle.board.specs.Record.{withDisplay, valid}
 use Rattle.board.specs.declared.record.Board.{Board}
 use Rattle.answers.specs.Reply.{answered}
 use Rattle.display.specs.declared.decision.Decision.{Decision}
-use Rattle.requests.specs.Requests.{Trail, trail}
-use Rattle.responder.specs.Answers.{Said, silent, says, groupOf, answers, after}
+use Rattle.requests.specs.Requests.{Request, Trail, trail}
+use Rattle.responder.specs.Answers.{groupOf, turnOf, after}
+use Rattle.responder.specs.Turns.{Said, silent, says, Turn, turns}
 use Rattle.responder.specs.declared.respond.Served.{Served}
 
 -- ---- writes
@@ -31,9 +31,9 @@ writeAll [] ss m = m
 writeAll (t ∷ ts) [] m = m
 writeAll (t ∷ ts) (s ∷ ss) m = writeAll ts ss (written t s m)
 
--- every tag of a message with what it says
-abbrev pub trailWritten : Decision → Board → Trail → List ℕ → List ℕ
-trailWritten g b tr m = writeAll (tr .tags) (answers g b (tr .requests)) m
+-- every tag of a message with what it says, from a state on
+abbrev pub trailWritten : {S : Type 0} → (turn : S → Request → Turn S) → S → Trail → List ℕ → List ℕ
+trailWritten turn s tr m = writeAll (tr .tags) (turns turn s (tr .requests) .saids) m
 
 -- the code word: 0x80000000 where all was done, 0x80000001 after a fault
 abbrev pub codeOf : (outcome : ℕ) → ℕ
@@ -43,10 +43,6 @@ abbrev pub coded : (outcome : ℕ) → List ℕ → List ℕ
 coded outcome m = put codePlace (le 4 (codeOf outcome)) m
 
 -- ---- the reply
-abbrev pub withDisplay : Board → Display → Board
-withDisplay b d =
-    record { facts = b .facts; line = b .line; devices = b .devices; clocks = b .clocks; voltages = b .voltages; temperature = b .temperature; display = d }
-
 -- a refusal: message and record untouched
 abbrev pub refused : (outcome : ℕ) → Board → List ℕ → Call Served
 refused outcome b m = leaves m (record { outcome = outcome; place = 0; board = b })
@@ -54,8 +50,12 @@ refused outcome b m = leaves m (record { outcome = outcome; place = 0; board = b
 -- a message that is walked: its tags are carried out up to its end or its first fault
 abbrev pub servedBy : Trail → Decision → Board → List ℕ → Call Served
 servedBy tr g b m =
-    leaves (coded (tr .ending .outcome) (trailWritten g b tr m))
-    (record { outcome = tr .ending .outcome; place = tr .ending .place; board = withDisplay (after b (tr .requests)) (g .display) })
+    leaves (coded (tr .ending .outcome) (trailWritten (turnOf g) b tr m))
+    (record {
+      outcome = tr .ending .outcome;
+      place = tr .ending .place;
+      board = withDisplay (after g b (tr .requests)) (g .display);
+    })
 
 unfoldable pub served : Board → List ℕ → (size : ℕ) → Call Served
 served b m size = let tr = trail m size header in servedBy tr (groupOf (b .display) (tr .ending) (tr .requests)) b m

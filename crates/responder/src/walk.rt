@@ -1,6 +1,5 @@
 // The walk over a message that serves its tags. The record is the loop's own variable, and only one
 // item of it goes through a call.
-use answers::reply::put_answer;
 use answers::reply::put_pair;
 use board::record::Board;
 use display::answer::put_group;
@@ -19,7 +18,7 @@ use requests::ask::ask_at;
 use table::kinds::OutsideTag;
 use tags::clock::clock_after;
 use tags::clock::clock_value;
-use tags::fact::answer_fact;
+use tags::fact::put_fact;
 use tags::outside::absent_value;
 use tags::outside::item_place;
 use tags::place::Place;
@@ -28,6 +27,7 @@ use tags::power::power_value;
 use tags::temperature::temperature_value;
 use tags::voltage::voltage_after;
 use tags::voltage::voltage_value;
+use words::numbers::nth_word;
 ghost use mathlib.Core.Path.{_≡_};
 ghost use Rattle.message.specs.Builder.{leaves};
 ghost use Rattle.message.specs.Outcomes.{shortRequest};
@@ -80,44 +80,49 @@ pub fn serve_tags(board: Board, msg: &mut [u8], size: usize, group: Decision) ->
             return tags_served(ended(st), operation, b);
         };
         let ask = ask_at(msg, tag);
+        let value = tag.at + Message::TAG;
         match ask {
             Ask::Pass => {}
             Ask::Short => return tags_served(short_at(p), operation, b),
-            Ask::Group(frame, a, x) => {
-                operation = note(operation, frame, a, x);
-                put_group(msg, tag.at, tag.size, group, frame, b.facts, &b.line);
+            Ask::Group(frame, count) => {
+                let end = value + count;
+                operation = note(operation, frame, &msg[value..end]);
+                put_group(msg, tag.at, tag.size, group, frame);
             }
-            Ask::Outside(outside, a, x) => {
-                let place = item_place(outside, a);
+            Ask::Outside(outside, count) => {
+                let end = value + count;
+                let request = &msg[value..end];
+                let id = nth_word(request, 0);
+                let x = nth_word(request, 1);
+                let place = item_place(outside, id);
                 let Place::At(i) = place else {
                     // No item has this id: the answer of an absent one, and nothing changes.
-                    put_pair(msg, tag.at, tag.size, a, absent_value(outside));
+                    put_pair(msg, tag.at, tag.size, id, absent_value(outside));
                     p = next;
                     continue;
                 };
                 match outside {
                     OutsideTag::Fact(fact) => {
-                        let answer = answer_fact(b.facts, fact);
-                        put_answer(msg, tag.at, tag.size, answer, b.facts, &b.line);
+                        put_fact(msg, tag.at, tag.size, b.facts, &b.line, fact);
                     }
                     OutsideTag::Power(power) => {
                         let d = power_after(b.devices[i], power, x);
                         b.devices[i] = d;
-                        put_pair(msg, tag.at, tag.size, a, power_value(d, power));
+                        put_pair(msg, tag.at, tag.size, id, power_value(d, power));
                     }
                     OutsideTag::Clock(clock) => {
                         let c = clock_after(b.clocks[i], clock, x);
                         b.clocks[i] = c;
-                        put_pair(msg, tag.at, tag.size, a, clock_value(c, clock));
+                        put_pair(msg, tag.at, tag.size, id, clock_value(c, clock));
                     }
                     OutsideTag::Voltage(voltage) => {
                         let v = voltage_after(b.voltages[i], voltage, x);
                         b.voltages[i] = v;
-                        put_pair(msg, tag.at, tag.size, a, voltage_value(v, voltage));
+                        put_pair(msg, tag.at, tag.size, id, voltage_value(v, voltage));
                     }
                     OutsideTag::Temperature(temperature) => {
-                        let n = temperature_value(b.temperature, temperature, a);
-                        put_pair(msg, tag.at, tag.size, a, n);
+                        let n = temperature_value(b.temperature, temperature, id);
+                        put_pair(msg, tag.at, tag.size, id, n);
                     }
                 }
             }

@@ -1,19 +1,24 @@
--- Fixed facts.
+-- Fixed facts, and what each answers.
+use mathlib.Core.List.{List}
+use Prim.Native.Nat.{ℕ}
+use lib.ListN.{take}
+use Rattle.words.specs.Numbers.{le}
 use Rattle.board.specs.declared.facts.Facts.{Facts}
 use Rattle.board.specs.declared.facts.Span.{Span}
 use Rattle.table.specs.declared.kinds.FactTag.{FactTag}
-use Rattle.answers.specs.declared.answer.Answer.{Answer}
+use Rattle.answers.specs.Answer.{twoWords}
 
-abbrev pub spanAnswer : Span → Answer
-spanAnswer s = Answer.Pair (s .base) (s .size)
+abbrev pub spanAnswer : Span → List ℕ
+spanAnswer s = twoWords (s .base) (s .size)
 
-unfoldable pub factAnswer : FactTag → Facts → Answer
-factAnswer FactTag.Firmware f = Answer.Word (f .firmware)
-factAnswer FactTag.Model f = Answer.Word (f .model)
-factAnswer FactTag.Revision f = Answer.Word (f .revision)
-factAnswer FactTag.Mac f = Answer.Mac
-factAnswer FactTag.Serial f = Answer.Long (f .serial)
-factAnswer FactTag.Arm f = spanAnswer (f .arm)
-factAnswer FactTag.Vc f = spanAnswer (f .vc)
-factAnswer FactTag.Line f = Answer.Line
-factAnswer FactTag.Dma f = Answer.Word (f .dma)
+-- the MAC address in stored order; the command line as long as it is, with no zero added
+unfoldable pub factAnswer : FactTag → Facts → (line : List ℕ) → List ℕ
+factAnswer FactTag.Firmware f line = le 4 (f .firmware)
+factAnswer FactTag.Model f line = le 4 (f .model)
+factAnswer FactTag.Revision f line = le 4 (f .revision)
+factAnswer FactTag.Mac f line = take 6 (f .mac)
+factAnswer FactTag.Serial f line = le 8 (f .serial)
+factAnswer FactTag.Arm f line = spanAnswer (f .arm)
+factAnswer FactTag.Vc f line = spanAnswer (f .vc)
+factAnswer FactTag.Line f line = take (f .characters) (take 256 line)
+factAnswer FactTag.Dma f line = le 4 (f .dma)

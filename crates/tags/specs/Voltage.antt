@@ -1,11 +1,13 @@
 -- Voltages, ids 1 to 4, in millivolts.
 use mathlib.Core.Bool.{cond}
+use mathlib.Core.List.{List}
 use Prim.Native.Nat.{ℕ, _+_, _-_, _/_, _%_, _^_}
 use lib.Dec.{ltb}
+use Rattle.words.specs.Clamp.{clamp}
+use Rattle.board.specs.Items.{noVoltage}
 use Rattle.board.specs.declared.items.Voltage.{Voltage}
 use Rattle.table.specs.declared.kinds.VoltageTag.{VoltageTag}
-use Rattle.tags.specs.Clock.{clamp}
-use Rattle.tags.specs.Place.{placeOf}
+use Rattle.tags.specs.Place.{placeOf, itemAnswer, itemsAfter}
 use Rattle.tags.specs.declared.place.Place.{Place}
 
 abbrev pub voltageCount : ℕ
@@ -25,7 +27,8 @@ stepsDown mv = mv / 25
 abbrev pub stepsUp : ℕ → ℕ
 stepsUp mv = (mv + 24) / 25
 
--- the offset of a maximum from 1,200 mV in steps of 25 mV, rounded toward minus infinity: below 1,200 mV the distance rounds up
+-- the offset of a maximum from 1,200 mV in steps of 25 mV, rounded toward minus infinity: below 1,200 mV the distance
+-- rounds up
 unfoldable pub maxOffset : ℕ → ℕ
 maxOffset mv = cond (ltb mv 1200) (minus (stepsUp (1200 - mv))) (stepsDown (mv - 1200))
 
@@ -35,7 +38,8 @@ minOffset mv = cond (ltb mv 1200) (minus (stepsDown (1200 - mv))) (stepsUp (mv -
 
 -- a set is clamped; an invalid voltage changes nothing
 unfoldable pub voltageAfter : VoltageTag → ℕ → Voltage → Voltage
-voltageAfter VoltageTag.Set x v = cond (v .valid) (record { valid = v .valid; value = clamp (v .min) (v .max) x; min = v .min; max = v .max }) v
+voltageAfter VoltageTag.Set x v =
+    cond (v .valid) (record { valid = v .valid; value = clamp (v .min) (v .max) x; min = v .min; max = v .max }) v
 voltageAfter VoltageTag.Get x v = v
 voltageAfter VoltageTag.Max x v = v
 voltageAfter VoltageTag.Min x v = v
@@ -49,3 +53,10 @@ voltageOf VoltageTag.Min v = minOffset (v .min)
 -- what a tag answers of the voltage that it left; an invalid one answers 0x80000000 to all four
 unfoldable pub voltageValue : VoltageTag → Voltage → ℕ
 voltageValue tag v = cond (v .valid) (voltageOf tag v) 0x8000_0000
+
+-- a tag's answer, and the voltages that it leaves
+abbrev pub voltageAnswer : VoltageTag → (request : List ℕ) → List Voltage → List ℕ
+voltageAnswer t request voltages = itemAnswer noVoltage voltagePlace (voltageAfter t) (voltageValue t) request voltages
+
+abbrev pub voltagesAfter : VoltageTag → (request : List ℕ) → List Voltage → List Voltage
+voltagesAfter t request voltages = itemsAfter noVoltage voltagePlace (voltageAfter t) request voltages

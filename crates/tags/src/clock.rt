@@ -7,10 +7,10 @@ use crate::state::state_of;
 use board::items::Clock;
 use board::items::State;
 use table::kinds::ClockTag;
+use words::clamp::clamped;
 ghost use mathlib.Core.Path.{_≡_};
-ghost use Prim.Native.Nat.{min, max};
 ghost use Rattle.board.specs.Items.{noClock};
-ghost use Rattle.tags.specs.Clock.{clockCount, clamp, settled, clockAfter, clockValue};
+ghost use Rattle.tags.specs.Clock.{clockCount, settled, clockAfter, clockValue};
 ghost use Rattle.tags.specs.Named.{Placed};
 
 // The place of the clock of an id, 1 to 14.
@@ -18,25 +18,6 @@ pub fn clock_place(id: u32) -> Place
     ensures { λ r. ⌜ Placed id 1 clockCount r ⌝ }
 {
     place_of(id, 1, 14)
-}
-
-fn lesser(a: u32, b: u32) -> u32
-    ensures { λ r. ⌜ r ≡ min a b ⌝ }
-{
-    if a <= b { a } else { b }
-}
-
-fn greater(a: u32, b: u32) -> u32
-    ensures { λ r. ⌜ r ≡ max a b ⌝ }
-{
-    if a <= b { b } else { a }
-}
-
-// x, or the nearer bound where it lies outside.
-pub fn clamped(low: u32, high: u32, x: u32) -> u32
-    ensures { λ r. ⌜ r ≡ clamp low high x ⌝ }
-{
-    lesser(high, greater(low, x))
 }
 
 // The clock of an id that is not listed.

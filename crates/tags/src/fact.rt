@@ -1,22 +1,35 @@
 // Fixed facts.
-use answers::answer::Answer;
+use answers::reply::put_bytes;
+use answers::reply::put_long;
+use answers::reply::put_pair;
+use answers::reply::put_word;
 use board::facts::Facts;
 use table::kinds::FactTag;
+use words::bytes::first;
 ghost use mathlib.Core.Path.{_≡_};
+ghost use lib.ListN.{length};
+ghost use Rattle.message.specs.Helpers.{InMessage};
+ghost use Rattle.answers.specs.Reply.{answered};
 ghost use Rattle.tags.specs.Fact.{factAnswer};
 
-pub fn answer_fact(f: Facts, tag: FactTag) -> Answer
-    ensures { λ r. ⌜ r ≡ factAnswer tag f ⌝ }
+// Answers the tag at `at`, whose value has `size` bytes, with a fact; `line` is the record's command line, of
+// whose 256 bytes `characters` count. No entry point: the walk above has found the tag in the message.
+pub fn put_fact(msg: &mut [u8], at: usize, size: u32, f: Facts, line: &[u8], tag: FactTag)
+    requires { ⌜ InMessage (length (now msg)) at size ⌝ }
+    ensures { λ _. ⌜ now (msg .exit) ≡ answered at size (factAnswer tag f (now (line .entry))) (now (msg .entry)) ⌝ }
 {
     match tag {
-        FactTag::Firmware => Answer::Word(f.firmware),
-        FactTag::Model => Answer::Word(f.model),
-        FactTag::Revision => Answer::Word(f.revision),
-        FactTag::Mac => Answer::Mac,
-        FactTag::Serial => Answer::Long(f.serial),
-        FactTag::Arm => Answer::Pair(f.arm.base, f.arm.size),
-        FactTag::Vc => Answer::Pair(f.vc.base, f.vc.size),
-        FactTag::Line => Answer::Line,
-        FactTag::Dma => Answer::Word(f.dma),
+        FactTag::Firmware => put_word(msg, at, size, f.firmware),
+        FactTag::Model => put_word(msg, at, size, f.model),
+        FactTag::Revision => put_word(msg, at, size, f.revision),
+        FactTag::Mac => {
+            let mac = f.mac;
+            put_bytes(msg, at, size, &mac);
+        }
+        FactTag::Serial => put_long(msg, at, size, f.serial),
+        FactTag::Arm => put_pair(msg, at, size, f.arm.base, f.arm.size),
+        FactTag::Vc => put_pair(msg, at, size, f.vc.base, f.vc.size),
+        FactTag::Line => put_bytes(msg, at, size, first(first(line, 256), f.characters)),
+        FactTag::Dma => put_word(msg, at, size, f.dma),
     }
 }

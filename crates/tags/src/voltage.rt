@@ -1,9 +1,9 @@
 // Voltages.
-use crate::clock::clamped;
 use crate::place::Place;
 use crate::place::place_of;
 use board::items::Voltage;
 use table::kinds::VoltageTag;
+use words::clamp::clamped;
 ghost use mathlib.Core.Path.{_≡_};
 ghost use Rattle.board.specs.Items.{noVoltage};
 ghost use Rattle.tags.specs.Named.{Placed};

@@ -47,7 +47,8 @@ module _ (m : List ℕ) (id n wanted : ℕ) {r : Reading} (e : r ≡ found m id 
 pub start-cursor : (m : List ℕ) {r : Built} → r ≡ started m → Fits w32 (r .cursor .at)
 start-cursor m e = inside (ap (λ (x : Built). x .cursor .at) e) (start-inside m)
 
-pub add-cursor : (m : List ℕ) (c : Cursor) (id size : ℕ) (request : List ℕ) {m₁ : List ℕ} {r : Built} → leaves m₁ r ≡ added m c id size request → Fits w32 (c .at) → Fits w32 (r .cursor .at)
+pub add-cursor : (m : List ℕ) (c : Cursor) (id size : ℕ) (request : List ℕ) {m₁ : List ℕ} {r : Built} → leaves m₁ r ≡ added m c id size request →
+    Fits w32 (c .at) → Fits w32 (r .cursor .at)
 add-cursor m c id size request {m₁} {r} e f =
     let is : r .cursor .at ≡ added m c id size request .answer .cursor .at = ap (λ (x : Call Built). x .answer .cursor .at) e in
     let k = add-inside m c id size request {n = 2 ^ 32 - 1} (omega arith) (let w = f .fits in omega arith) in

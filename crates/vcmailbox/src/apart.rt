@@ -16,7 +16,14 @@ pub extern "C" fn vc_list(
     word: &mut u32,
     value: &mut u32,
 ) -> u32
-    ensures { λ r. ⌜ record { outcome = r; place = now (place .exit); id = now (id .exit); size = now (size .exit); word = now (word .exit); value = now (value .exit) } ≡ listed (now (message .entry)) index ⌝ }
+    ensures { λ r. ⌜ record {
+      outcome = r;
+      place = now (place .exit);
+      id = now (id .exit);
+      size = now (size .exit);
+      word = now (word .exit);
+      value = now (value .exit);
+    } ≡ listed (now (message .entry)) index ⌝ }
 {
     let listed = list(message, index);
     *place = listed.place as u32;
@@ -39,7 +46,13 @@ pub extern "C" fn vc_read(
     value: &mut u32,
     count: &mut u32,
 ) -> u32
-    ensures { λ r. ⌜ record { outcome = r; place = now (place .exit); length = now (answer .exit); value = now (value .exit); count = now (count .exit) } ≡ found (now (message .entry)) id occurrence wanted ⌝ }
+    ensures { λ r. ⌜ record {
+      outcome = r;
+      place = now (place .exit);
+      length = now (answer .exit);
+      value = now (value .exit);
+      count = now (count .exit);
+    } ≡ found (now (message .entry)) id occurrence wanted ⌝ }
 {
     let reading = read(message, id, occurrence, wanted);
     *place = reading.place as u32;

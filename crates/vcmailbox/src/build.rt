@@ -24,7 +24,8 @@ pub extern "C" fn vc_add(
     size: u32,
     request: &[u8],
 ) -> u32
-    ensures { λ r. ⌜ leaves (now (buffer .exit)) (built r (now (cursor .exit))) ≡ added (now (buffer .entry)) (record { at = now (cursor .entry) }) id size (now (request .entry)) ⌝ }
+    ensures { λ r. ⌜ leaves (now (buffer .exit)) (built r (now (cursor .exit)))
+        ≡ added (now (buffer .entry)) (record { at = now (cursor .entry) }) id size (now (request .entry)) ⌝ }
 {
     let at = *cursor as usize;
     let added = builder::add(buffer, Cursor { at }, id, size, request);
@@ -36,7 +37,8 @@ pub extern "C" fn vc_add(
 // Finishes the request at the cursor, and gives its size.
 #[no_mangle]
 pub extern "C" fn vc_finish(buffer: &mut [u8], cursor: u32, size: &mut u32) -> u32
-    ensures { λ r. ⌜ leaves (now (buffer .exit)) (record { outcome = r; place = 0; size = now (size .exit) }) ≡ finished (now (buffer .entry)) (record { at = cursor }) ⌝ }
+    ensures { λ r. ⌜ leaves (now (buffer .exit)) (record { outcome = r; place = 0; size = now (size .exit) })
+        ≡ finished (now (buffer .entry)) (record { at = cursor }) ⌝ }
 {
     let at = cursor as usize;
     let finished = builder::finish(buffer, Cursor { at });

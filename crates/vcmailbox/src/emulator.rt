@@ -18,7 +18,9 @@ pub extern "C" fn vc_bench(board: &mut Board)
 // Serves the message on the record.
 #[no_mangle]
 pub extern "C" fn vc_serve(board: &mut Board, message: &mut [u8], place: &mut u32) -> u32
-    ensures { λ r. ⌜ leaves (now (message .exit)) (record { outcome = r; place = now (place .exit); board = now (board .exit) }) ≡ reply (now (board .entry)) (now (message .entry)) ⌝ }
+    ensures { λ r. ⌜ leaves (now (message .exit))
+        (record { outcome = r; place = now (place .exit); board = now (board .exit) })
+        ≡ reply (now (board .entry)) (now (message .entry)) ⌝ }
 {
     let before = *board;
     let served = respond(before, message);

@@ -1,50 +1,32 @@
 -- Answers as bytes, and their store.
-use mathlib.Core.List.{List, _++_}
+use mathlib.Core.List.{List, [], _++_}
 use mathlib.Core.Path.{_≡_, refl, sym, ap, _∙_}
-use Prim.Native.Nat.{ℕ, _+_, _-_, _≤_, min}
+use Prim.Native.Nat.{ℕ, _+_, _-_, _≤_}
 use native.Mathlib.Omega.{arith}
 use borrow.Rule.Slice.PartMut.{putMid}
 use lib.ListN.{length, take, drop, replicate, length-take, length-replicate}
+use lib.Seq.{take-nil}
 use Rattle.words.proofs.Laws.Numbers.{length-le}
 use Rattle.words.proofs.Laws.Parts.{over-all, put-mid}
-use Rattle.words.proofs.Laws.Put.{put-behind, put-apart}
+use Rattle.words.proofs.Laws.Put.{put-nil, put-behind, put-apart}
 use Rattle.words.specs.Numbers.{le}
 use Rattle.words.specs.Put.{over, put}
 use Rattle.message.specs.Sizes.{tagHeader}
 use Rattle.message.specs.Walk.{wordPlace}
-use Rattle.board.specs.declared.facts.Facts.{Facts}
-use Rattle.answers.specs.Answer.{answerBytes}
+use Rattle.answers.specs.Answer.{twoWords}
 use Rattle.answers.specs.Reply.{answered}
-use Rattle.answers.specs.declared.answer.Answer.{Answer}
 
 -- ---- numbers made in an array of their own, and stored
 pub store-by : (k n : ℕ) (m : List ℕ) {bytes m′ : List ℕ} → bytes ≡ put 0 (le k n) (replicate k 0) → m′ ≡ over bytes m → m′ ≡ over (le k n) m
 store-by k n m eb e = e ∙ ap (λ (l : List ℕ). over l m) (eb ∙ over-all (le k n) (replicate k 0) (length-le k n ∙ sym (length-replicate k 0)))
 
-pub pair-of : (a b : ℕ) (m : List ℕ) {m₁ m₂ : List ℕ} → m₁ ≡ put 0 (le 4 a) m → m₂ ≡ put 4 (le 4 b) m₁ → m₂ ≡ over (le 4 a ++ le 4 b) m
+pub pair-of : (a b : ℕ) (m : List ℕ) {m₁ m₂ : List ℕ} → m₁ ≡ put 0 (le 4 a) m → m₂ ≡ put 4 (le 4 b) m₁ → m₂ ≡ over (twoWords a b) m
 pair-of a b m e f = f ∙ ap (put 4 (le 4 b)) e ∙ put-behind 0 4 (le 4 a) (le 4 b) m refl
 
--- ---- an answer that is known
-module _ (f : Facts) (line : List ℕ) {a : Answer} (x : Answer) (e : a ≡ x) where
-  pub stored-is : (m : List ℕ) {m′ : List ℕ} → m′ ≡ over (answerBytes f line x) m → m′ ≡ over (answerBytes f line a) m
-  stored-is m s = s ∙ ap (λ (y : Answer). over (answerBytes f line y) m) (sym e)
-
-  pub length-is : {n : ℕ} → n ≡ length (answerBytes f line x) → n ≡ length (answerBytes f line a)
-  length-is s = s ∙ ap (λ (y : Answer). length (answerBytes f line y)) (sym e)
-
 -- two words made in an array of their own
-pub pair-by : (a b : ℕ) (m : List ℕ) {b₁ b₂ m′ : List ℕ} → b₁ ≡ put 0 (le 4 a) (replicate 8 0) → b₂ ≡ put 4 (le 4 b) b₁ → m′ ≡ over b₂ m → m′ ≡ over (le 4 a ++ le 4 b) m
-pair-by a b m e f g = g ∙ ap (λ (l : List ℕ). over l m) (pair-of a b (replicate 8 0) e f ∙ over-all (le 4 a ++ le 4 b) (replicate 8 0) refl)
-
--- no answer is long
-pub answer-short : (f : Facts) (line : List ℕ) (a : Answer) → length (f .mac) ≡ 6 → min (f .characters) (length line) ≤ 256 → length (answerBytes f line a) ≤ 256
-unfolding answerBytes
-answer-short f line Answer.Nothing mac l = omega arith
-answer-short f line (Answer.Word n) mac l = omega arith
-answer-short f line (Answer.Pair a b) mac l = omega arith
-answer-short f line (Answer.Long n) mac l = omega arith
-answer-short f line Answer.Mac mac l = omega arith
-answer-short f line Answer.Line mac l = simp length-take (omega arith)
+pub pair-by : (a b : ℕ) (m : List ℕ) {b₁ b₂ m′ : List ℕ} → b₁ ≡ put 0 (le 4 a) (replicate 8 0) → b₂ ≡ put 4 (le 4 b) b₁ → m′ ≡ over b₂ m
+    → m′ ≡ over (twoWords a b) m
+pair-by a b m e f g = g ∙ ap (λ (l : List ℕ). over l m) (pair-of a b (replicate 8 0) e f ∙ over-all (twoWords a b) (replicate 8 0) refl)
 
 -- ---- the tag word and the value's first bytes
 pub answered-is : (at size : ℕ) (bytes m : List ℕ) {n : ℕ} {m₁ part : List ℕ} → n ≡ length bytes → m₁ ≡ put (at + wordPlace) (le 4 (0x8000_0000 + n)) m
@@ -56,6 +38,20 @@ answered-is at size bytes m {n} {m₁} {part} en e₁ ep =
     ap (putMid (at + tagHeader) (at + tagHeader + size - (at + tagHeader)) m₁) ep
     ∙ put-mid (at + tagHeader) (at + tagHeader + size - (at + tagHeader)) bytes m₁
     ∙ rw (k, e₁, en)
+
+-- an answer of no bytes is the tag word alone
+answered-word-alone : (at size : ℕ) (m : List ℕ) → answered at size [] m ≡ put (at + wordPlace) (le 4 0x8000_0000) m
+unfolding answered
+answered-word-alone at size m =
+    let m₁ = put (at + wordPlace) (le 4 0x8000_0000) m in
+    ap (λ (bs : List ℕ). put (at + tagHeader) bs m₁) (take-nil size) ∙ put-nil (at + tagHeader) m₁
+
+pub answered-none : (at size : ℕ) (m : List ℕ) {m′ : List ℕ} → m′ ≡ put (at + wordPlace) (le 4 0x8000_0000) m → m′ ≡ answered at size [] m
+answered-none at size m e = e ∙ sym (answered-word-alone at size m)
+
+-- whatever the size of the value
+pub none-sized : (at size size′ : ℕ) (m : List ℕ) → answered at size [] m ≡ answered at size′ [] m
+none-sized at size size′ m = answered-word-alone at size m ∙ sym (answered-word-alone at size′ m)
 
 -- ---- answers of tags that stand apart are written in either order
 module _ (at size : ℕ) (x : List ℕ) (at′ size′ : ℕ) (x′ : List ℕ) (apart : at + tagHeader + size ≤ at′) where

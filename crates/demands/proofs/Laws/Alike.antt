@@ -9,31 +9,35 @@ use lib.Dec.{ltb, eqb}
 use lib.ListN.{length, take, getD}
 use Rattle.message.proofs.Laws.Paired.{Paired, none, both}
 use Rattle.message.specs.Outcomes.{done}
-use Rattle.message.specs.Reader.{keptTag, withId}
+use Rattle.message.specs.Reader.{isAnswered, keptTag, withId}
 use Rattle.message.specs.declared.walk.Ending.{Ending}
 use Rattle.message.specs.declared.walk.Tag.{Tag}
 use Rattle.table.specs.Table.{rowOf}
 use Rattle.table.specs.declared.kinds.Kind.{Kind}
 use Rattle.table.specs.declared.rows.Row.{Row}
-use Rattle.requests.specs.Requests.{Request, passed, short, asks, valueOf, isResponse, requestBytes, requestBy, requestOf, Trail, cutBy, cut}
-use Rattle.responder.specs.Answers.{Said, silent, says}
+use Rattle.requests.specs.Requests.{Request, passed, short, asks, valueOf, requestBytes, requestBy, requestOf, Trail, cutBy, cut}
+use Rattle.responder.specs.Turns.{Said, silent, says}
 use Rattle.demands.specs.Longer.{SameRequest, Alike}
 use Rattle.demands.specs.ReadingBack.{noTag}
 use Rattle.demands.specs.Walked.{tagsAfter}
 
 -- ---- one pair
-request-pair : (m m′ : List ℕ) (t t′ : Tag) → t .id ≡ t′ .id → t .word ≡ t′ .word → SameRequest m m′ t t′ → (requestOf m t ≡ short → ⊥) → (requestOf m′ t′ ≡ short → ⊥) → requestOf m t ≡ requestOf m′ t′
+request-pair : (m m′ : List ℕ) (t t′ : Tag) → t .id ≡ t′ .id → t .word ≡ t′ .word → SameRequest m m′ t t′ → (requestOf m t ≡ short → ⊥)
+    → (requestOf m′ t′ ≡ short → ⊥) → requestOf m t ≡ requestOf m′ t′
 unfolding requestOf requestBy
 request-pair m m′ t t′ ei ew same n n′ =
-    rw (← ei, ← ew) (go (isResponse (t .word)) refl (rowOf (t .id)) refl n (rw (← ei, ← ew) at n′))
+    rw (← ei, ← ew) (go (isAnswered t) refl (rowOf (t .id)) refl n (rw (← ei, ← ew) at n′))
   where
-    sized : (k : Kind) (c : ℕ) → rowOf (t .id) ≡ Row.Known k c → t .word < 0x8000_0000 → (x y : Bool) → (cond x short (asks k (requestBytes c (valueOf m t))) ≡ short → ⊥)
-        → (cond y short (asks k (requestBytes c (valueOf m′ t′))) ≡ short → ⊥) → cond x short (asks k (requestBytes c (valueOf m t))) ≡ cond y short (asks k (requestBytes c (valueOf m′ t′)))
+    sized : (k : Kind) (c : ℕ) → rowOf (t .id) ≡ Row.Known k c → t .word < 0x8000_0000 → (x y : Bool)
+        → (cond x short (asks k (requestBytes k c (t .size) (valueOf m t))) ≡ short → ⊥)
+        → (cond y short (asks k (requestBytes k c (t′ .size) (valueOf m′ t′))) ≡ short → ⊥) → cond x short (asks k (requestBytes k c (t .size)
+        (valueOf m t))) ≡ cond y short (asks k (requestBytes k c (t′ .size) (valueOf m′ t′)))
     sized k c er w true y a b = absurd (a refl)
     sized k c er w false true a b = absurd (b refl)
     sized k c er w false false a b = ap (asks k) (same k c er w)
 
-    go : (r : Bool) → isResponse (t .word) ≡ r → (row : Row) → rowOf (t .id) ≡ row → (requestBy r row (t .size) (valueOf m t) ≡ short → ⊥) → (requestBy r row (t′ .size) (valueOf m′ t′) ≡ short → ⊥)
+    go : (r : Bool) → isAnswered t ≡ r → (row : Row) → rowOf (t .id) ≡ row → (requestBy r row (t .size) (valueOf m t) ≡ short → ⊥)
+        → (requestBy r row (t′ .size) (valueOf m′ t′) ≡ short → ⊥)
         → requestBy r row (t .size) (valueOf m t) ≡ requestBy r row (t′ .size) (valueOf m′ t′)
     go true e row er a b = refl
     go false e Row.Unknown er a b = refl
@@ -44,19 +48,20 @@ module _ (m : List ℕ) (t : Tag) (rest : Trail) where
   by-not-short : (r : Request) → cutBy r t rest .ending .outcome ≡ done → r ≡ short → ⊥
   by-not-short passed e z = true≢false cc
   by-not-short short e z = omega arith
-  by-not-short (asks k bytes) e z = true≢false cc
+  by-not-short (asks k request) e z = true≢false cc
 
   by-ending : (r : Request) → cutBy r t rest .ending .outcome ≡ done → rest .ending .outcome ≡ done
   by-ending passed e = e
   by-ending short e = absurd (omega arith)
-  by-ending (asks k bytes) e = e
+  by-ending (asks k request) e = e
 
   by-requests : (r : Request) → (r ≡ short → ⊥) → cutBy r t rest .requests ≡ r ∷ rest .requests
   by-requests passed n = refl
   by-requests short n = absurd (n refl)
-  by-requests (asks k bytes) n = refl
+  by-requests (asks k request) n = refl
 
-pub requests-same : (m m′ : List ℕ) (ts ts′ : List Tag) (e e′ : Ending) → Alike m m′ ts ts′ → cut m ts e .ending .outcome ≡ done → cut m′ ts′ e′ .ending .outcome ≡ done
+pub requests-same : (m m′ : List ℕ) (ts ts′ : List Tag) (e e′ : Ending) → Alike m m′ ts ts′ → cut m ts e .ending .outcome ≡ done
+    → cut m′ ts′ e′ .ending .outcome ≡ done
     → cut m ts e .requests ≡ cut m′ ts′ e′ .requests
 requests-same m m′ [] [] e e′ a d d′ = refl
 requests-same m m′ [] (t′ ∷ ts′) e e′ a d d′ = absurd a
@@ -66,7 +71,8 @@ requests-same m m′ (t ∷ ts) (t′ ∷ ts′) e e′ a d d′ =
     let n′ = by-not-short m′ t′ (cut m′ ts′ e′) (requestOf m′ t′) d′ in
     let h = request-pair m m′ t t′ (a .0) (a .1) (a .3) n n′ in
     let ih = requests-same m m′ ts ts′ e e′ (a .4) (by-ending m t (cut m ts e) (requestOf m t) d) (by-ending m′ t′ (cut m′ ts′ e′) (requestOf m′ t′) d′) in
-    by-requests m t (cut m ts e) (requestOf m t) n ∙ ap (λ (r : Request). r ∷ cut m ts e .requests) h ∙ ap (λ (rs : List Request). requestOf m′ t′ ∷ rs) ih ∙ sym (by-requests m′ t′ (cut m′ ts′ e′) (requestOf m′ t′) n′)
+    by-requests m t (cut m ts e) (requestOf m t) n ∙ ap (λ (r : Request). r ∷ cut m ts e .requests) h ∙ ap (λ (rs : List Request). requestOf m′ t′ ∷
+    rs) ih ∙ sym (by-requests m′ t′ (cut m′ ts′ e′) (requestOf m′ t′) n′)
 
 -- the walk itself ends at an end word
 pub walk-done : (m : List ℕ) (ts : List Tag) (e : Ending) → cut m ts e .ending .outcome ≡ done → e .outcome ≡ done
@@ -74,17 +80,17 @@ walk-done m [] e d = d
 walk-done m (t ∷ ts) e d = walk-done m ts e (by-ending m t (cut m ts e) (requestOf m t) d)
 
 -- ---- what pairs off
-pub record Pair (t u : Tag) : Type 0 where
+pub record SameHeader (t u : Tag) : Type 0 where
   pub id : t .id ≡ u .id
   pub word : t .word ≡ u .word
 
-pub paired-after : (m m′ : List ℕ) (ts ts′ : List Tag) (ss : List Said) → Alike m m′ ts ts′ → Paired Pair (tagsAfter ts ss) (tagsAfter ts′ ss)
+pub paired-after : (m m′ : List ℕ) (ts ts′ : List Tag) (ss : List Said) → Alike m m′ ts ts′ → Paired SameHeader (tagsAfter ts ss) (tagsAfter ts′ ss)
 paired-after m m′ [] [] ss a = none
 paired-after m m′ [] (t′ ∷ ts′) ss a = absurd a
 paired-after m m′ (t ∷ ts) [] ss a = absurd a
 paired-after m m′ (t ∷ ts) (t′ ∷ ts′) [] a = both (record { id = a .0; word = a .1 }) (untold m m′ ts ts′ (a .4))
   where
-    untold : (m m′ : List ℕ) (us us′ : List Tag) → Alike m m′ us us′ → Paired Pair us us′
+    untold : (m m′ : List ℕ) (us us′ : List Tag) → Alike m m′ us us′ → Paired SameHeader us us′
     untold m m′ [] [] q = none
     untold m m′ [] (u′ ∷ us′) q = absurd q
     untold m m′ (u ∷ us) [] q = absurd q
@@ -92,7 +98,7 @@ paired-after m m′ (t ∷ ts) (t′ ∷ ts′) [] a = both (record { id = a .0;
 paired-after m m′ (t ∷ ts) (t′ ∷ ts′) (silent ∷ ss) a = both (record { id = a .0; word = a .1 }) (paired-after m m′ ts ts′ ss (a .4))
 paired-after m m′ (t ∷ ts) (t′ ∷ ts′) (says x ∷ ss) a = both (record { id = a .0; word = refl }) (paired-after m m′ ts ts′ ss (a .4))
 
-pub paired-words : {ts us : List Tag} → Paired Pair ts us → map (λ t. t .word) ts ≡ map (λ t. t .word) us
+pub paired-words : {ts us : List Tag} → Paired SameHeader ts us → map (λ t. t .word) ts ≡ map (λ t. t .word) us
 paired-words none = refl
 paired-words (both {t} {u} {ts} {us} p ps) = ap (λ (n : ℕ). n ∷ map (λ t. t .word) ts) (p .word) ∙ ap (λ (ns : List ℕ). u .word ∷ ns) (paired-words ps)
 

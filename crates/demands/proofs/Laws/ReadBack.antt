@@ -19,8 +19,8 @@ use Rattle.message.specs.Sizes.{tagHeader}
 use Rattle.message.specs.declared.walk.Ending.{Ending}
 use Rattle.message.specs.declared.walk.Tag.{Tag}
 use Rattle.answers.specs.Reply.{answered}
-use Rattle.responder.specs.Answers.{Said, silent, says}
 use Rattle.responder.specs.Reply.{writeAll}
+use Rattle.responder.specs.Turns.{Said, silent, says}
 use Rattle.responder.proofs.Laws.Written.{answered-length, answered-behind, answered-value, writes-before}
 use Rattle.demands.specs.ReadingBack.{noTag}
 use Rattle.demands.specs.Walked.{tagAfter, tagsAfter}
@@ -44,15 +44,18 @@ nth-at id [] ss i l e = absurd (omega arith)
 nth-at id (t ∷ ts) [] zero l e = kept-first (eqb (t .id) id) t (withId id ts) (eq-eqb (t .id) id e)
 nth-at id (t ∷ ts) [] (suc i) l e = kept-nth (eqb (t .id) id) t t (withId id (take i ts)) (withId id ts) (getD ts i noTag) (unsaid id ts i l e)
   where
-    unsaid : (id : ℕ) (us : List Tag) (j : ℕ) → suc j < suc (length us) → getD us j noTag .id ≡ id → Nth (length (withId id (take j us))) (withId id us) (getD us j noTag)
+    unsaid : (id : ℕ) (us : List Tag) (j : ℕ) → suc j < suc (length us) → getD us j noTag .id ≡ id
+        → Nth (length (withId id (take j us))) (withId id us) (getD us j noTag)
     unsaid id [] j q z = absurd (omega arith)
     unsaid id (u ∷ us) zero q z = kept-first (eqb (u .id) id) u (withId id us) (eq-eqb (u .id) id z)
     unsaid id (u ∷ us) (suc j) q z = kept-nth (eqb (u .id) id) u u (withId id (take j us)) (withId id us) (getD us j noTag) (unsaid id us j (omega arith) z)
 nth-at id (t ∷ ts) (s ∷ ss) zero l e =
     kept-first (eqb (tagAfter t s .id) id) (tagAfter t s) (withId id (tagsAfter ts ss)) (eq-eqb (tagAfter t s .id) id (id-after t s ∙ e))
 nth-at id (t ∷ ts) (s ∷ ss) (suc i) l e =
-    subst (λ (k : ℕ). Nth (length (keptTag (eqb (t .id) id) t (withId id (take i ts)))) (keptTag (eqb k id) (tagAfter t s) (withId id (tagsAfter ts ss))) (tagAfter (getD ts i noTag) (getD ss i silent))) (sym (id-after t s))
-    (kept-nth (eqb (t .id) id) t (tagAfter t s) (withId id (take i ts)) (withId id (tagsAfter ts ss)) (tagAfter (getD ts i noTag) (getD ss i silent)) (nth-at id ts ss i (omega arith) e))
+    subst (λ (k : ℕ). Nth (length (keptTag (eqb (t .id) id) t (withId id (take i ts)))) (keptTag (eqb k id) (tagAfter t s) (withId id
+    (tagsAfter ts ss))) (tagAfter (getD ts i noTag) (getD ss i silent))) (sym (id-after t s))
+    (kept-nth (eqb (t .id) id) t (tagAfter t s) (withId id (take i ts)) (withId id (tagsAfter ts ss)) (tagAfter (getD ts i noTag) (getD ss i silent))
+    (nth-at id ts ss i (omega arith) e))
 
 -- ---- an answered tag, judged
 module _ (t : Tag) (answer : List ℕ) (short : length answer < 2 ^ 31) where
@@ -75,7 +78,8 @@ module _ (t : Tag) (answer : List ℕ) (short : length answer < 2 ^ 31) where
 silent-says : {answer : List ℕ} {A : Type 0} → silent ≡ says answer → A
 silent-says e = absurd (true≢false cc)
 
-pub value-written : (m : List ℕ) (size p : ℕ) (ts : List Tag) (ss : List Said) (e : Ending) → Follows m size p ts e → size ≤ length m → (i : ℕ) → i < length ts → {answer : List ℕ} → getD ss i silent ≡ says answer
+pub value-written : (m : List ℕ) (size p : ℕ) (ts : List Tag) (ss : List Said) (e : Ending) → Follows m size p ts e → size ≤ length m → (i : ℕ)
+    → i < length ts → {answer : List ℕ} → getD ss i silent ≡ says answer
     → (k : ℕ) → k ≤ min (length answer) (getD ts i noTag .size) → take k (drop (getD ts i noTag .at + tagHeader) (writeAll ts ss m)) ≡ take k answer
 value-written m size p [] ss e h l i b a k q = absurd (omega arith)
 value-written m size p (t ∷ ts) [] e h l i b a k q = silent-says a

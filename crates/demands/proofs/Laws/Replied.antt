@@ -14,7 +14,7 @@ use Rattle.message.specs.Outcomes.{done, tooFewLent, badSize, notRequest, noEnd
 use Rattle.message.specs.Sizes.{smallest, codePlace}
 use Rattle.message.specs.declared.opening.Message.{Message}
 use Rattle.message.specs.declared.opening.Opened.{Opened}
-use Rattle.board.specs.Valid.{valid}
+use Rattle.board.specs.Record.{valid}
 use Rattle.board.specs.declared.record.Board.{Board}
 use Rattle.requests.specs.Requests.{Walks}
 use Rattle.responder.specs.Reply.{served, reply}
@@ -42,7 +42,9 @@ opened-number : (m : List ℕ) {n : ℕ} → opened m ≡ Opened.Refused n → (
 unfolding opened
 opened-number m {n} e = go (ltb (length m) smallest) (goodSize (word m 0) (length m)) e
   where
-    go : (few good : Bool) → cond few (Opened.Refused tooFewLent) (cond good (Opened.Good (record { size = word m 0 })) (Opened.Refused badSize)) ≡ Opened.Refused n → (n ≡ tooFewLent) ⊎ (n ≡ badSize)
+    go : (few good : Bool)
+        → cond few (Opened.Refused tooFewLent) (cond good (Opened.Good (record { size = word m 0 })) (Opened.Refused badSize)) ≡ Opened.Refused n
+        → (n ≡ tooFewLent) ⊎ (n ≡ badSize)
     go true good q = inl (cc)
     go false true q = absurd (true≢false cc)
     go false false q = inr (cc)
@@ -51,7 +53,8 @@ opened-sized : (m : List ℕ) {message : Message} → opened m ≡ Opened.Good m
 unfolding opened
 opened-sized m {message} e = go (ltb (length m) smallest) (goodSize (word m 0) (length m)) refl e
   where
-    go : (few good : Bool) → goodSize (word m 0) (length m) ≡ good → cond few (Opened.Refused tooFewLent) (cond good (Opened.Good (record { size = word m 0 })) (Opened.Refused badSize)) ≡ Opened.Good message
+    go : (few good : Bool) → goodSize (word m 0) (length m) ≡ good
+        → cond few (Opened.Refused tooFewLent) (cond good (Opened.Good (record { size = word m 0 })) (Opened.Refused badSize)) ≡ Opened.Good message
         → GoodSize (word m 0) (length m)
     go true good g q = absurd (true≢false cc)
     go false true g q = good-is (word m 0) (length m) g

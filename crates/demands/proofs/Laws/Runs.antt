@@ -58,7 +58,8 @@ module _ (m : List ℕ) (c : Cursor) (a : Add) (adds : List Add) where
       let f : Fine a = record { id-word = wi; size-word = ws; named = t .named; holds = t .holds } in
       let l = length-tag a f in
       let after = addAll adds m₁ c₁ in
-      let b : take (c .at) (after .bytes) ≡ take (c .at) m = take-earlier (c .at) (c₁ .at) (after .bytes) m₁ (omega arith) (r .before) ∙ take-put (c .at) (c .at) (bytesOf a) m (omega arith) in
+      let b : take (c .at) (after .bytes) ≡ take (c .at) m =
+      take-earlier (c .at) (c₁ .at) (after .bytes) m₁ (omega arith) (r .before) ∙ take-put (c .at) (c .at) (bytesOf a) m (omega arith) in
       let h : take (length (bytesOf a)) (drop (c .at) (after .bytes)) ≡ bytesOf a =
       part-before (c₁ .at) (c .at) (length (bytesOf a)) (after .bytes) m₁ (omega arith) (r .before) ∙ read-put (c .at) (bytesOf a) m (omega arith) in
       let g : Ran m (c .at) (keptIf true a after) = record { same = r .same ∙ length-put (c .at) (bytesOf a) m; before = b; holds = (f, h, r .holds) } in
@@ -69,7 +70,8 @@ ran [] m c w = record { same = refl; before = refl; holds = refl }
 ran (a ∷ adds) m c w =
     go (eqb (outcome m c a adds) done) refl (ran adds (m₁ m c a adds) (c₁ m c a adds) (w .2)) (ran adds m c (w .2))
   where
-    go : (b : Bool) → eqb (outcome m c a adds) done ≡ b → Ran (m₁ m c a adds) (c₁ m c a adds .at) (addAll adds (m₁ m c a adds) (c₁ m c a adds)) → Ran m (c .at) (addAll adds m c)
+    go : (b : Bool) → eqb (outcome m c a adds) done ≡ b → Ran (m₁ m c a adds) (c₁ m c a adds .at) (addAll adds (m₁ m c a adds) (c₁ m c a adds))
+        → Ran m (c .at) (addAll adds m c)
         → Ran m (c .at) (addAll (a ∷ adds) m c)
     go true e r r′ = ran-taken m c a adds (w .0) (w .1) (eqb-true (outcome m c a adds) done e) r
     go false e r r′ = ran-refused m c a adds (eqb-false (outcome m c a adds) done e) r′
@@ -81,7 +83,8 @@ pub record Whole (m : List ℕ) (c : ℕ) (adds : List Add) : Type 0 where
   pub inside : c < word m 0
   pub end : word m c ≡ 0
 
-pub whole : (m : List ℕ) (c : Cursor) (adds : List Add) → Holds m header adds (c .at) → finished m c .answer .outcome ≡ done → Whole (finished m c .bytes) (c .at) adds
+pub whole : (m : List ℕ) (c : Cursor) (adds : List Add) → Holds m header adds (c .at) → finished m c .answer .outcome ≡ done
+    → Whole (finished m c .bytes) (c .at) adds
 unfolding closed
 whole m c adds h e =
     let a = accepted m c e in
@@ -97,12 +100,14 @@ whole m c adds h e =
     let behind : drop header sized ≡ drop header ended = drop-put 0 (le 4 size ++ le 4 0) ended header (omega arith) in
     let size-is : word sized 0 ≡ size =
     ap (λ (x : List ℕ). word x 0) (sym (put-behind 0 codePlace (le 4 size) (le 4 0) ended refl))
-    ∙ number-before 4 0 4 (put codePlace (le 4 0) (put 0 (le 4 size) ended)) (put 0 (le 4 size) ended) (omega arith) (take-put 4 codePlace (le 4 0) (put 0 (le 4 size) ended) (omega arith))
+    ∙ number-before 4 0 4 (put codePlace (le 4 0) (put 0 (le 4 size) ended)) (put 0 (le 4 size) ended) (omega arith) (take-put 4 codePlace (le 4 0)
+    (put 0 (le 4 size) ended) (omega arith))
     ∙ number-put 4 0 size ended (omega arith) (omega arith) in
     let end-is : word sized at ≡ 0 =
     number-behind 4 header at sized ended (omega arith) behind
     ∙ ap (λ (x : List ℕ). word x at) (sym (put-behind at (at + endWord) (le 4 0) (zeros k) m refl))
-    ∙ number-before 4 at (at + endWord) (put (at + endWord) (zeros k) (put at (le 4 0) m)) (put at (le 4 0) m) (omega arith) (take-put (at + endWord) (at + endWord) (zeros k) (put at (le 4 0) m) (omega arith))
+    ∙ number-before 4 at (at + endWord) (put (at + endWord) (zeros k) (put at (le 4 0) m)) (put at (le 4 0) m) (omega arith) (take-put (at + endWord)
+    (at + endWord) (zeros k) (put at (le 4 0) m) (omega arith))
     ∙ number-put 4 at 0 m (omega arith) (omega arith) in
     let held : Holds sized header adds at =
     holds-behind ended sized header adds at (sym behind) (holds-before m ended header adds at (sym (take-put at at (le 4 0 ++ zeros k) m (omega arith))) h) in

@@ -50,8 +50,12 @@ holds-before m m′ p (a ∷ adds) c e h =
 
 pub holds-behind : (m m′ : List ℕ) (p : ℕ) (adds : List Add) (c : ℕ) → drop p m ≡ drop p m′ → Holds m p adds c → Holds m′ p adds c
 holds-behind m m′ p [] c e h = h
-holds-behind m m′ p (a ∷ adds) c e h =
-    (h .0, ap (take (length (bytesOf a))) (sym e) ∙ h .1, holds-behind m m′ (tagEnd p (a .size)) adds c (drop-later p (tagEnd p (a .size)) m m′ (omega arith) e) (h .2))
+holds-behind m m′ p (a ∷ adds) c e h = (
+  h .0,
+  ap (take (length (bytesOf a))) (sym e) ∙ h .1,
+  holds-behind m m′ (tagEnd p (a .size)) adds c (drop-later p (tagEnd p (a .size)) m m′
+      (omega arith) e) (h .2),
+)
 
 -- ---- a tag that stands at p
 module _ (m : List ℕ) (p : ℕ) (a : Add) (f : Fine a) (h : take (length (bytesOf a)) (drop p m) ≡ bytesOf a) where

@@ -5,34 +5,46 @@ use Prim.Native.Nat.{ℕ, _+_, _^_, _≤_, _<_}
 use native.Mathlib.Omega.{arith}
 use borrow.Author.Tests.{leb-true, ne-eqb}
 use lib.Dec.{eqb, leb}
+use Rattle.words.proofs.Laws.Align.{one-bit-least, up-above}
+use Rattle.words.specs.Align.{oneBit}
 use Rattle.words.specs.Round.{roundUp}
-use Rattle.board.specs.Display.{need, possible, supported}
-use Rattle.board.specs.Valid.{validDisplay}
+use Rattle.board.specs.Display.{need, possible, supported, validDisplay}
 use Rattle.board.specs.declared.display.Display.{Display}
+use Rattle.board.specs.declared.display.Settings.{Settings}
 use Rattle.board.specs.declared.facts.Span.{Span}
-use Rattle.board.proofs.Laws.Display.{supported-is}
-use Rattle.board.proofs.Laws.Valid.{display-parts}
-use Rattle.display.specs.Decision.{oneBit, placedAt, allocatable, fitsBuffer, accepted, bufferAfter, nowhere, showing, leftAlone, tested, carriedOut, decidedBy, decided}
+use Rattle.board.proofs.Laws.Display.{supported-is, display-parts}
+use Rattle.display.specs.Decision.{supportedFrom, placedAt, allocatable, fitsBuffer, accepted, bufferAfter, nowhere}
+use Rattle.display.specs.Decision.{showing, leftAlone, tested, carriedOut, decidedBy, decided}
 use Rattle.display.specs.declared.decision.Decision.{Decision}
 use Rattle.display.specs.declared.operation.Operation.{Operation}
-use Rattle.display.proofs.Laws.Align.{one-bit-least, up-above}
 
 -- ---- a valid display
 pub valid-possible : (d : Display) → validDisplay d ≡ true → possible (d .settings) ≡ true
 valid-possible d v = supported-is _ _ (display-parts d v .settings) .0
 
+-- what may be proposed is supported
+pub from-supported : (d : Display) (s : Settings) → supportedFrom d s ≡ true → supported (d .region .size) s ≡ true
+unfolding supportedFrom
+from-supported d s e = e
+
+pub from-possible : (d : Display) (s : Settings) → supportedFrom d s ≡ true → possible s ≡ true
+from-possible d s e = supported-is _ _ (from-supported d s e) .0
+
 module _ (d : Display) (o : Operation) where
   -- ---- an accepted operation
-  pub accepted-supported : accepted d o ≡ true → supported (d .region .size) (o .proposal) ≡ true
+  accepted-from : accepted d o ≡ true → supportedFrom d (o .proposal) ≡ true
   unfolding accepted
-  accepted-supported e = and-eq-true-iff (supported (d .region .size) (o .proposal)) (cond (o .allocates) (allocatable d o) (fitsBuffer d o)) .0 e .0
+  accepted-from e = and-eq-true-iff (supportedFrom d (o .proposal)) (cond (o .allocates) (allocatable d o) (fitsBuffer d o)) .0 e .0
+
+  pub accepted-supported : accepted d o ≡ true → supported (d .region .size) (o .proposal) ≡ true
+  accepted-supported e = from-supported d (o .proposal) (accepted-from e)
 
   pub accepted-possible : accepted d o ≡ true → possible (o .proposal) ≡ true
-  accepted-possible e = supported-is _ _ (accepted-supported e) .0
+  accepted-possible e = from-possible d (o .proposal) (accepted-from e)
 
   accepted-room : accepted d o ≡ true → cond (o .allocates) (allocatable d o) (fitsBuffer d o) ≡ true
   unfolding accepted
-  accepted-room e = and-eq-true-iff (supported (d .region .size) (o .proposal)) (cond (o .allocates) (allocatable d o) (fitsBuffer d o)) .0 e .1
+  accepted-room e = and-eq-true-iff (supportedFrom d (o .proposal)) (cond (o .allocates) (allocatable d o) (fitsBuffer d o)) .0 e .1
 
   -- ---- where it places its buffer
   pub record Room : Type 0 where
@@ -68,7 +80,7 @@ pub carried-out-parts : (d : Display) (o : Operation) {placed buffer : Span} {r 
     → r ≡ showing (o .proposal) (record { region = d .region; settings = o .proposal; buffer = buffer })
     → buffer ≡ cond (o .allocates) placed (cond (o .releases) nowhere (d .buffer))
     → placed ≡ cond (o .allocates) (placedAt d o) nowhere
-    → record { answered = r .answered; shown = r .shown; pitch = r .pitch; placed = placed; display = r .display } ≡ carriedOut true d o
+    → record { answered = r .answered; accepted = true; shown = r .shown; pitch = r .pitch; placed = placed; display = r .display } ≡ carriedOut true d o
 carried-out-parts d o er eb ep = rw (er, eb, ep, buffer-after (o .allocates) (o .releases) d o)
 
 -- ---- what the tests give, one after the other
@@ -77,7 +89,8 @@ module _ (d : Display) (o : Operation) where
   unfolding allocatable
   not-aligned e = rw e
 
-  pub allocatable-by : {base size : ℕ} → oneBit (o .alignment) ≡ true → base ≡ roundUp (o .alignment) (d .region .base) → size ≡ need (o .proposal) → leb (base + size) (d .region .base + d .region .size) ≡ allocatable d o
+  pub allocatable-by : {base size : ℕ} → oneBit (o .alignment) ≡ true → base ≡ roundUp (o .alignment) (d .region .base) → size ≡ need (o .proposal)
+      → leb (base + size) (d .region .base + d .region .size) ≡ allocatable d o
   unfolding allocatable placedAt
   allocatable-by e eb es = rw (e, eb, es)
 
@@ -86,11 +99,12 @@ module _ (d : Display) (o : Operation) where
   unfolding fitsBuffer
   none-stands e = sym (ap (λ (n : ℕ). cond (eqb n 0) true (cond (o .releases) true (leb (need (o .proposal)) (d .buffer .size)))) e)
 
-  pub one-stands : (d .buffer .size ≡ 0 → ⊥) → {released : Bool} → o .releases ≡ released → cond released true (leb (need (o .proposal)) (d .buffer .size)) ≡ fitsBuffer d o
+  pub one-stands : (d .buffer .size ≡ 0 → ⊥) → {released : Bool} → o .releases ≡ released
+      → cond released true (leb (need (o .proposal)) (d .buffer .size)) ≡ fitsBuffer d o
   unfolding fitsBuffer
   one-stands n e = rw (ne-eqb _ _ n) (sym (ap (λ (b : Bool). cond b true (leb (need (o .proposal)) (d .buffer .size))) e))
 
-  module _ {s : Bool} (es : s ≡ supported (d .region .size) (o .proposal)) where
+  module _ {s : Bool} (es : s ≡ supportedFrom d (o .proposal)) where
     pub unsupported : s ≡ false → false ≡ accepted d o
     unfolding accepted
     unsupported e = rw (← es, e)
@@ -108,7 +122,7 @@ module _ (d : Display) (o : Operation) where
 
 -- ---- what holds of each decision that there is holds of the decision
 module _ (d : Display) (o : Operation) (P : Decision → Type 0) (shows : P (showing (d .settings) d)) where
-  tested-cases : (supported (d .region .size) (o .proposal) ≡ true → P (showing (o .proposal) d)) → (b : Bool) → supported (d .region .size) (o .proposal) ≡ b → P (tested b d o)
+  tested-cases : (supportedFrom d (o .proposal) ≡ true → P (showing (o .proposal) d)) → (b : Bool) → supportedFrom d (o .proposal) ≡ b → P (tested b d o)
   tested-cases h true e = h e
   tested-cases h false e = shows
 
@@ -116,10 +130,11 @@ module _ (d : Display) (o : Operation) (P : Decision → Type 0) (shows : P (sho
   carried-cases h true e = h e
   carried-cases h false e = shows
 
-  module _ (alone : P (leftAlone d)) (tests : supported (d .region .size) (o .proposal) ≡ true → P (showing (o .proposal) d)) (carries : accepted d o ≡ true → P (carriedOut true d o)) where
+  module _ (alone : P (leftAlone d)) (tests : supportedFrom d (o .proposal) ≡ true → P (showing (o .proposal) d)) (carries : accepted d o ≡ true → P
+      (carriedOut true d o)) where
     by-cases : (t u : Bool) → P (decidedBy t u d o)
     by-cases true true = alone
-    by-cases true false = tested-cases tests (supported (d .region .size) (o .proposal)) refl
+    by-cases true false = tested-cases tests (supportedFrom d (o .proposal)) refl
     by-cases false true = carried-cases carries (accepted d o) refl
     by-cases false false = alone
 

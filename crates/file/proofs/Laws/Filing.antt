@@ -17,6 +17,7 @@ pub filed-above : (m : List ℕ) → largest < length m → leaves m badSize ≡
 unfolding filed
 filed-above m h = rw (lt-ltb largest (length m) h)
 
-pub filed-served : (m : List ℕ) {m₁ : List ℕ} {b : Board} {r : Served} → length m ≤ largest → b ≡ bench → leaves m₁ r ≡ reply b m → leaves m₁ (r .outcome) ≡ filed m
+pub filed-served : (m : List ℕ) {m₁ : List ℕ} {b : Board} {r : Served} → length m ≤ largest → b ≡ bench → leaves m₁ r ≡ reply b m
+    → leaves m₁ (r .outcome) ≡ filed m
 unfolding filed
 filed-served m h eb er = rw (le-ltb largest (length m) h, ← eb, ← er)

@@ -35,8 +35,9 @@ cut-outcome m (t ∷ ts) e k = go (requestOf m t) (cut-outcome m ts e k)
     go : (r : Request) → Walks (cut m ts e .ending .outcome) → Walks (cutBy r t (cut m ts e) .ending .outcome)
     go passed h = h
     go short h = inr (inr (inr refl))
-    go (asks k bytes) h = h
+    go (asks k request) h = h
 
 pub ending-outcome : (m : List ℕ) (size p : ℕ) → Walks (trail m size p .ending .outcome)
 unfolding trail walkFrom
-ending-outcome m size p = cut-outcome m (walkFrom m size p .tags) (walkFrom m size p .ending) (walk-outcome (suc size) m size (step m size p) (step-outcome m size p))
+ending-outcome m size p =
+    cut-outcome m (walkFrom m size p .tags) (walkFrom m size p .ending) (walk-outcome (suc size) m size (step m size p) (step-outcome m size p))

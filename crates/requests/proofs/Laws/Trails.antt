@@ -41,7 +41,7 @@ request-same m m′ t e = rw (drop-later (t .at) (t .at + tagHeader) m m′ (ome
 pub cut-on : (r : Request) (t : Tag) (rest : Trail) → (r ≡ short → ⊥) → cutBy r t rest ≡ goesOn t r rest
 cut-on passed t rest n = refl
 cut-on short t rest n = absurd (n refl)
-cut-on (asks k bytes) t rest n = refl
+cut-on (asks k request) t rest n = refl
 
 -- a tag that was found lies in the message
 pub in-message : (m : List ℕ) (size p : ℕ) {t : Tag} {next : ℕ} → Walking m size p → Found m size p t next → InMessage (length m) (t .at) (t .size)
@@ -81,7 +81,7 @@ cut-inside m size (t ∷ ts) e s h = go (requestOf m t) (cut-inside m size ts e 
     go : (r : Request) → cut m ts e .ending .place ≤ size → cutBy r t (cut m ts e) .ending .place ≤ size
     go passed k = k
     go short k = let w = s .0 in omega arith
-    go (asks q bytes) k = k
+    go (asks q request) k = k
 
 pub trail-inside : (m : List ℕ) (size p : ℕ) → Walking m size p → trail m size p .ending .place ≤ size
 unfolding trail

@@ -11,7 +11,7 @@ use Rattle.message.specs.Opening.{opened}
 use Rattle.message.specs.Sizes.{header, codePlace, largest}
 use Rattle.message.specs.Helpers.{Walking}
 use Rattle.message.specs.declared.opening.Opened.{Opened}
-use Rattle.board.specs.Valid.{valid}
+use Rattle.board.specs.Record.{valid}
 use Rattle.board.specs.declared.record.Board.{Board}
 use Rattle.requests.proofs.Laws.Trails.{trail-inside}
 use Rattle.responder.specs.Reply.{served, codedIf, openedIf, validIf, reply}

@@ -18,22 +18,20 @@ use Rattle.message.specs.Helpers.{Walking}
 use Rattle.message.specs.declared.opening.Message.{Message}
 use Rattle.message.specs.declared.opening.Opened.{Opened}
 use Rattle.message.specs.declared.walk.Ending.{Ending}
-use Rattle.board.specs.Valid.{valid}
+use Rattle.board.specs.Record.{withDisplay, valid}
 use Rattle.board.specs.declared.display.Display.{Display}
 use Rattle.board.specs.declared.record.Board.{Board}
-use Rattle.tags.proofs.Laws.Kept.{SameFixed}
 use Rattle.display.specs.Decision.{leftAlone, decided}
 use Rattle.display.specs.declared.decision.Decision.{Decision}
 use Rattle.display.specs.declared.operation.Operation.{Operation}
 use Rattle.requests.specs.Requests.{Trail, trail}
-use Rattle.responder.proofs.Laws.Fixed.{after-fixed}
-use Rattle.responder.proofs.Laws.Group.{answers-unanswered}
-use Rattle.responder.proofs.Laws.Saids.{few-characters}
+use Rattle.responder.proofs.Laws.Saids.{after-same, answers-unanswered, two-walks}
 use Rattle.responder.proofs.Laws.Twice.{twice}
 use Rattle.responder.proofs.Laws.Written.{writes-length}
-use Rattle.responder.specs.Answers.{Said, groupBy, groupOf, answers, after}
-use Rattle.responder.specs.Reply.{writeAll, trailWritten, codeOf, withDisplay, served, openedIf, reply}
+use Rattle.responder.specs.Answers.{groupBy, groupOf, turnOf, answers, after}
+use Rattle.responder.specs.Reply.{writeAll, trailWritten, codeOf, served, openedIf, reply}
 use Rattle.responder.specs.Serve.{tagsServed, groupServed}
+use Rattle.responder.specs.Turns.{Said}
 use Rattle.responder.specs.declared.respond.Served.{Served}
 use Rattle.responder.specs.declared.walk.TagsServed.{TagsServed}
 
@@ -48,10 +46,10 @@ module _ (outcome : ℕ) (d : Display) (o : Operation) {r : Decision} where
 module _ (g : Decision) (b : Board) (m : List ℕ) (size : ℕ) where
   pub group-walked : g .answered ≡ true → {m′ : List ℕ} {r : TagsServed} → leaves m′ r ≡ tagsServed g b m size → m′ ≡ groupServed g b m size
   group-walked y e =
-      ap (λ (x : Call TagsServed). x .bytes) e ∙ ap (λ (x : Bool). cond x (trailWritten g b (trail m size header) m) m) (sym y)
+      ap (λ (x : Call TagsServed). x .bytes) e ∙ ap (λ (x : Bool). cond x (trailWritten (turnOf g) b (trail m size header) m) m) (sym y)
 
   pub group-stays : g .answered ≡ false → m ≡ groupServed g b m size
-  group-stays n = ap (λ (x : Bool). cond x (trailWritten g b (trail m size header) m) m) (sym n)
+  group-stays n = ap (λ (x : Bool). cond x (trailWritten (turnOf g) b (trail m size header) m) m) (sym n)
 
 -- ---- a message that is served
 module _ (b : Board) (m : List ℕ) (size : ℕ) (w : Walking m size header) where
@@ -69,17 +67,18 @@ module _ (b : Board) (m : List ℕ) (size : ℕ) (w : Walking m size header) whe
         record { within = w .within; lent = let k = w .lent in omega arith; most = w .most; place4 = w .place4; size4 = w .size4 }
 
   -- the first walk with the group left alone, the group decided and answered, the code word
-  module _ (v : valid b ≡ true) (six : length (b .facts .mac) ≡ 6) {g₀ : Decision} (e₀ : g₀ ≡ leftAlone (b .display)) {m₁ : List ℕ} {r : TagsServed}
+  module _ {g₀ : Decision} (e₀ : g₀ ≡ leftAlone (b .display)) {m₁ : List ℕ} {r : TagsServed}
       (e₁ : leaves m₁ r ≡ tagsServed g₀ b m size)
-      {g : Decision} (eg : g ≡ groupBy (eqb (r .ending .outcome) done) (b .display) (r .operation)) {m₂ : List ℕ} (e₂ : m₂ ≡ groupServed g (r .board) m₁ size) where
+      {g : Decision} (eg : g ≡ groupBy (eqb (r .ending .outcome) done) (b .display) (r .operation)) {m₂ : List ℕ} (e₂ : m₂ ≡ groupServed g (r .board)
+      m₁ size) where
     quiet : g₀ .answered ≡ false
     quiet = ap (λ (x : Decision). x .answered) e₀
 
     ending-is : r .ending ≡ tr .ending
     ending-is = ap (λ (x : Call TagsServed). x .answer .ending) e₁
 
-    board-is : r .board ≡ after b (tr .requests)
-    board-is = ap (λ (x : Call TagsServed). x .answer .board) e₁
+    board-is : r .board ≡ after g b (tr .requests)
+    board-is = ap (λ (x : Call TagsServed). x .answer .board) e₁ ∙ after-same g₀ g b (tr .requests)
 
     group-is : g ≡ groupOf (b .display) (tr .ending) (tr .requests)
     unfolding groupOf
@@ -88,23 +87,23 @@ module _ (b : Board) (m : List ℕ) (size : ℕ) (w : Walking m size header) whe
         ∙ ap (λ (x : Operation). groupBy (eqb (tr .ending .outcome) done) (b .display) x) (ap (λ (x : Call TagsServed). x .answer .operation) e₁)
 
     -- the second walk makes what one walk would have made; where it is not taken, the first has
-    bytes-are : m₂ ≡ trailWritten g b tr m
+    bytes-are : m₂ ≡ trailWritten (turnOf g) b tr m
     bytes-are = e₂ ∙ either (g .answered) refl
       where
-        first : m₁ ≡ trailWritten g₀ b tr m
+        first : m₁ ≡ trailWritten (turnOf g₀) b tr m
         first = ap (λ (x : Call TagsServed). x .bytes) e₁
 
-        either : (y : Bool) → g .answered ≡ y → cond y (trailWritten g (r .board) (trail m₁ size header) m₁) m₁ ≡ trailWritten g b tr m
-        either true y =
-            twice g₀ g m size b (r .board) quiet (w .lent) six (few-characters b v) (subst (SameFixed b) (sym board-is) (after-fixed b (tr .requests))) first
-        either false n = first ∙ ap (λ (ss : List Said). writeAll (tr .tags) ss m) (answers-unanswered g₀ g b (tr .requests) quiet n)
+        either : (y : Bool) → g .answered ≡ y → cond y (trailWritten (turnOf g) (r .board) (trail m₁ size header) m₁) m₁ ≡ trailWritten (turnOf g) b tr m
+        either true y = twice (turnOf g₀) (turnOf g) (two-walks g₀ g quiet) size m b (r .board) (w .lent) first
+        either false n = first ∙ ap (λ (ss : List Said). writeAll (tr .tags) ss m) (answers-unanswered g₀ g quiet n b (tr .requests))
 
     pub served-is : {code : ℕ} → code ≡ codeOf (r .ending .outcome) → {m₃ : List ℕ} → m₃ ≡ put codePlace (le 4 code) m₂
         → leaves m₃ (record { outcome = r .ending .outcome; place = r .ending .place; board = withDisplay (r .board) (g .display) }) ≡ served b m size
     unfolding served
     served-is {code} ec {m₃} e₃ =
-        let bytes : m₃ ≡ put codePlace (le 4 (codeOf (r .ending .outcome))) (trailWritten g b tr m) = e₃ ∙ ap (λ (n : ℕ). put codePlace (le 4 n) m₂) ec ∙ ap
-        (put codePlace (le 4 (codeOf (r .ending .outcome)))) bytes-are in
+        let code-is = ap (λ (n : ℕ). put codePlace (le 4 n) m₂) ec in
+        let bytes : m₃ ≡ put codePlace (le 4 (codeOf (r .ending .outcome))) (trailWritten (turnOf g) b tr m) =
+        e₃ ∙ code-is ∙ ap (put codePlace (le 4 (codeOf (r .ending .outcome)))) bytes-are in
         rw (bytes, ending-is, board-is, group-is)
 
 -- ---- any record and any bytes

@@ -1,61 +1,74 @@
--- What is said is never long.
-use mathlib.Core.Bool.{Bool, true, false, cond, and-eq-true-iff}
-use mathlib.Core.List.{List, [], _∷_}
-use mathlib.Core.Path.{_≡_, ap, _∙_}
-use Prim.Native.Nat.{ℕ, _^_, _≤_, _<_}
-use native.Mathlib.Omega.{arith}
-use borrow.Author.Tests.{leb-true}
-use lib.Dec.{leb, ltb}
+-- What a tag of the responder says: its length fits into a tag word; and what it says where the group is not answered.
+use mathlib.Core.Bool.{Bool, true, false, cond}
+use mathlib.Core.List.{List}
+use mathlib.Core.Path.{_≡_, refl, ap}
+use Prim.Native.Nat.{ℕ, _^_, _<_}
 use lib.ListN.{length}
-use Rattle.board.proofs.Laws.Valid.{valid-parts}
-use Rattle.board.specs.Valid.{valid, validFacts}
-use Rattle.board.specs.declared.facts.Facts.{Facts}
 use Rattle.board.specs.declared.record.Board.{Board}
 use Rattle.table.specs.declared.kinds.Kind.{Kind}
-use Rattle.answers.proofs.Laws.Answers.{answer-short}
-use Rattle.answers.specs.Answer.{answerBytes}
-use Rattle.answers.specs.declared.answer.Answer.{Answer}
+use Rattle.tags.proofs.Laws.Lengths.{outside-fits}
 use Rattle.tags.specs.Outside.{outsideAnswer}
+use Rattle.display.proofs.Laws.Lengths.{group-fits}
 use Rattle.display.specs.Decision.{groupAnswer}
 use Rattle.display.specs.declared.decision.Decision.{Decision}
-use Rattle.requests.specs.Requests.{first, second, Request, passed, short, asks}
-use Rattle.responder.proofs.Laws.Fixed.{after-same}
-use Rattle.responder.specs.Answers.{Said, silent, says, saidBy, afterBy, answers}
+use Rattle.requests.specs.Requests.{Request, passed, short, asks}
+use Rattle.responder.proofs.Laws.Turns.{Each, turns-each, turns-state, turns-same}
+use Rattle.responder.proofs.Laws.Twice.{TwoWalks}
+use Rattle.responder.specs.Answers.{turnOf, answers, after}
+use Rattle.responder.specs.Turns.{Said, silent, says, Turns}
 
-answer-fits : (f : Facts) (line : List ℕ) (a : Answer) → length (f .mac) ≡ 6 → f .characters ≤ 256 → length (answerBytes f line a) < 2 ^ 31
-answer-fits f line a mac l = let s = answer-short f line a mac (omega arith) in omega arith
+abbrev pub SaidFits : Said → Type 0
+SaidFits silent = Unit {0}
+SaidFits (says answer) = length answer < 2 ^ 31
 
-abbrev pub ShortSaid : Said → Type 0
-ShortSaid silent = Unit {0}
-ShortSaid (says answer) = length answer < 2 ^ 31
-
-pub said-short : (g : Decision) (b : Board) (r : Request) → length (b .facts .mac) ≡ 6 → b .facts .characters ≤ 256 → ShortSaid (saidBy g b r)
-unfolding saidBy
-said-short g b passed mac l = tt
-said-short g b short mac l = tt
-said-short g b (asks (Kind.Group t) bytes) mac l = go (g .answered)
+said-fits : (g : Decision) (b : Board) (r : Request) → SaidFits (turnOf g b r .said)
+unfolding turnOf
+said-fits g b passed = tt
+said-fits g b short = tt
+said-fits g b (asks (Kind.Outside t) request) = outside-fits t request b
+said-fits g b (asks (Kind.Group t) request) = go (g .answered)
   where
-    go : (c : Bool) → ShortSaid (cond c (says (answerBytes (b .facts) (b .line) (groupAnswer g t))) silent)
-    go true = answer-fits (b .facts) (b .line) (groupAnswer g t) mac l
+    go : (c : Bool) → SaidFits (cond c (says (groupAnswer g t request)) silent)
+    go true = group-fits g t request
     go false = tt
-said-short g b (asks (Kind.Outside t) bytes) mac l = answer-fits (b .facts) (b .line) (outsideAnswer t (first bytes) (second bytes) b) mac l
 
-abbrev pub Short : List Said → Type 0
-Short [] = Unit {0}
-Short (silent ∷ ss) = Short ss
-Short (says answer ∷ ss) = (length answer < 2 ^ 31) × Short ss
+pub saids-fit : (g : Decision) (b : Board) (rs : List Request) → Each SaidFits (answers g b rs)
+saids-fit g b rs = turns-each (turnOf g) SaidFits (said-fits g) b rs
 
-join : (s : Said) (ss : List Said) → ShortSaid s → Short ss → Short (s ∷ ss)
-join silent ss a h = h
-join (says answer) ss a h = (a, h)
+-- the record is left the same, whatever was decided of the group
+state-same : (g g′ : Decision) (b : Board) (r : Request) → turnOf g b r .state ≡ turnOf g′ b r .state
+unfolding turnOf
+state-same g g′ b passed = refl
+state-same g g′ b short = refl
+state-same g g′ b (asks (Kind.Outside t) request) = refl
+state-same g g′ b (asks (Kind.Group t) request) = refl
 
-pub saids-short : (g : Decision) (b : Board) (rs : List Request) → length (b .facts .mac) ≡ 6 → b .facts .characters ≤ 256 → Short (answers g b rs)
-saids-short g b [] mac l = tt
-saids-short g b (r ∷ rs) mac l =
-    let f = after-same b r .facts in
-    join (saidBy g b r) (answers g (afterBy b r) rs) (said-short g b r mac l)
-    (saids-short g (afterBy b r) rs (ap (λ (x : Facts). length (x .mac)) f ∙ mac) (rw f l))
+pub after-same : (g g′ : Decision) (b : Board) (rs : List Request) → after g b rs ≡ after g′ b rs
+after-same g g′ b rs = turns-state (turnOf g) (turnOf g′) (state-same g g′) b rs
 
-pub few-characters : (b : Board) → valid b ≡ true → b .facts .characters ≤ 256
-unfolding validFacts
-few-characters b v = leb-true _ _ (and-eq-true-iff (leb (b .facts .characters) 256) (ltb (b .facts .dma) (2 ^ 16)) .0 (valid-parts b v .facts) .0)
+-- a group that is not answered says nothing, whatever was decided
+module _ (g g′ : Decision) (e : g .answered ≡ false) (e′ : g′ .answered ≡ false) where
+  turn-unanswered : (b : Board) (r : Request) → turnOf g b r ≡ turnOf g′ b r
+  unfolding turnOf
+  turn-unanswered b passed = refl
+  turn-unanswered b short = refl
+  turn-unanswered b (asks (Kind.Outside t) request) = refl
+  turn-unanswered b (asks (Kind.Group t) request) = rw (e, e′)
+
+  pub answers-unanswered : (b : Board) (rs : List Request) → answers g b rs ≡ answers g′ b rs
+  answers-unanswered b rs = ap (λ (x : Turns Board). x .saids) (turns-same (turnOf g) (turnOf g′) turn-unanswered b rs)
+
+-- ---- the turns of the first walk, which leaves the group alone, and of the one that there would be
+pub two-walks : (g₀ g : Decision) → g₀ .answered ≡ false → TwoWalks (turnOf g₀) (turnOf g)
+unfolding turnOf
+two-walks g₀ g quiet = record {
+  passes₀ = λ b. refl;
+  passes = λ b. refl;
+  state = state-same g₀ g;
+  answer = λ b k request. outsideAnswer k request b;
+  answered₀ = λ b k request. refl;
+  answered = λ b k request. refl;
+  fits = λ b k request. outside-fits k request b;
+  quiet = λ b k request. ap (λ (c : Bool). cond c (says (groupAnswer g₀ k request)) silent) quiet;
+  group = λ b b′ k request. refl;
+}

@@ -1,8 +1,8 @@
--- A message that was walked once with its group left alone, and is walked again with the group decided: nothing but the group is written then.
-use mathlib.Core.Bool.{false}
+-- A message that was walked once with its group left alone, and is walked again with the group decided: nothing but the
+-- group is written then.
 use mathlib.Core.List.{List, [], _∷_}
 use mathlib.Core.Path.{_≡_, refl, sym, ap, _∙_, subst}
-use Prim.Native.Nat.{ℕ, _+_, _≤_}
+use Prim.Native.Nat.{ℕ, _+_, _^_, _≤_, _<_}
 use native.Mathlib.Omega.{arith}
 use lib.ListN.{length}
 use Rattle.words.specs.Numbers.{word}
@@ -13,52 +13,68 @@ use Rattle.message.specs.Walk.{Walk, wordPlace, tagAt, step, walkFrom}
 use Rattle.message.specs.declared.walk.Ending.{Ending}
 use Rattle.message.specs.declared.walk.Step.{Step}
 use Rattle.message.specs.declared.walk.Tag.{Tag}
-use Rattle.board.specs.declared.facts.Facts.{Facts}
-use Rattle.board.specs.declared.record.Board.{Board}
 use Rattle.table.specs.declared.kinds.FrameTag.{FrameTag}
 use Rattle.table.specs.declared.kinds.Kind.{Kind}
-use Rattle.tags.proofs.Laws.Kept.{SameFixed}
-use Rattle.display.specs.declared.decision.Decision.{Decision}
+use Rattle.table.specs.declared.kinds.OutsideTag.{OutsideTag}
 use Rattle.requests.proofs.Laws.Trails.{trail-tag, trail-behind, request-before, answered-passed}
 use Rattle.requests.specs.Requests.{Request, passed, short, asks, requestOf, Trail, ends, goesOn, cutBy, cut, trail}
 use Rattle.responder.proofs.Laws.Apart.{writes-apart}
-use Rattle.responder.proofs.Laws.Fixed.{after-same}
-use Rattle.responder.proofs.Laws.Saids.{ShortSaid, said-short}
 use Rattle.responder.proofs.Laws.Written.{answered-word, written-length, written-behind, writes-before, cut-writes, reworded}
-use Rattle.responder.specs.Answers.{Said, silent, says, saidBy, afterBy, answers}
 use Rattle.responder.specs.Reply.{written, writeAll, trailWritten}
+use Rattle.responder.specs.Turns.{Said, silent, says, Turn, turns}
 
-module _ (g₀ g : Decision) (size : ℕ) where
+-- the turns of two walks, one that leaves the group alone and one that does not: they leave the same states, and say the
+-- same outside the group; what the second has a group tag say depends on no state
+pub record TwoWalks {S : Type 0} (turn₀ turn : S → Request → Turn S) : Type 0 where
+  pub passes₀ : (s : S) → turn₀ s passed .said ≡ silent
+  pub passes : (s : S) → turn s passed .said ≡ silent
+  pub state : (s : S) (r : Request) → turn₀ s r .state ≡ turn s r .state
+  pub answer : (s : S) (k : OutsideTag) (request : List ℕ) → List ℕ
+  pub answered₀ : (s : S) (k : OutsideTag) (request : List ℕ) → turn₀ s (asks (Kind.Outside k) request) .said ≡ says (answer s k request)
+  pub answered : (s : S) (k : OutsideTag) (request : List ℕ) → turn s (asks (Kind.Outside k) request) .said ≡ says (answer s k request)
+  pub fits : (s : S) (k : OutsideTag) (request : List ℕ) → length (answer s k request) < 2 ^ 31
+  pub quiet : (s : S) (k : FrameTag) (request : List ℕ) → turn₀ s (asks (Kind.Group k) request) .said ≡ silent
+  pub group : (s s′ : S) (k : FrameTag) (request : List ℕ) → turn s (asks (Kind.Group k) request) .said ≡ turn s′ (asks (Kind.Group k) request) .said
+
+module _ {S : Type 0} (turn₀ turn : S → Request → Turn S) (two : TwoWalks turn₀ turn) (size : ℕ) where
   -- the message as the first walk leaves it
-  abbrev swept : List Tag → Board → Trail → List ℕ → List ℕ
-  swept ts b tr m = writeAll ts (answers g₀ b (tr .requests)) m
+  abbrev walkedOnce : List Tag → S → Trail → List ℕ → List ℕ
+  walkedOnce ts s tr m = writeAll ts (turns turn₀ s (tr .requests) .saids) m
 
-  -- what the second walk makes of it, on a record b₁, is what one walk on b would have made
-  abbrev Goal : List Tag → (b b₁ : Board) → (p : ℕ) → Trail → List ℕ → Type 0
-  Goal ts b b₁ p tr m = trailWritten g b₁ (trail (swept ts b tr m) size p) (swept ts b tr m) ≡ trailWritten g b tr m
+  -- what the second walk makes of it, on a state s₁, is what one walk on s would have made
+  abbrev Goal : List Tag → (s s₁ : S) → (p : ℕ) → Trail → List ℕ → Type 0
+  Goal ts s s₁ p tr m = trailWritten turn s₁ (trail (walkedOnce ts s tr m) size p) (walkedOnce ts s tr m) ≡ trailWritten turn s tr m
 
   module _ (t : Tag) (ts : List Tag) (e : Ending) (m : List ℕ) (p q : ℕ) (st : step m size p ≡ Step.Tag t q) (rest : Follows m size q ts e)
       (l : size ≤ length m) where
     -- the trail behind the tag, with what the tag says written
-    behind : (s : Said) → trail m size q ≡ trail (written t s m) size q
-    behind s =
+    behind : (v : Said) → trail m size q ≡ trail (written t v m) size q
+    behind v =
         let f = found m size p st in
-        trail-behind m (written t s m) size q (sym (written-behind t s m q (omega arith)))
+        trail-behind m (written t v m) size q (sym (written-behind t v m q (omega arith)))
 
     -- a tag that is passed over in the second walk: it said in the first what it says in one
-    over : (r : Request) (b b₁ : Board) {t₁ : Tag}
-        → saidBy g₀ b r ≡ saidBy g b r
-        → step (swept ts (afterBy b r) (trail m size q) (written t (saidBy g₀ b r) m)) size p ≡ Step.Tag t₁ q
-        → requestOf (swept ts (afterBy b r) (trail m size q) (written t (saidBy g₀ b r) m)) t₁ ≡ passed
-        → Goal ts (afterBy b r) b₁ q (trail (written t (saidBy g₀ b r) m) size q) (written t (saidBy g₀ b r) m)
-        → Goal (t ∷ ts) b b₁ p (goesOn t r (trail m size q)) m
-    unfolding saidBy afterBy
-    over r b b₁ {t₁} es e₁ er ih =
-        let m₁ = written t (saidBy g₀ b r) m in
-        let x = swept ts (afterBy b r) (trail m size q) m₁ in
-        let tr : trail x size p ≡ goesOn t₁ passed (trail x size q) = trail-tag x size p e₁ ∙ ap (λ (z : Request). cutBy z t₁ (trail x size q)) er in
-        let ih₁ : Goal ts (afterBy b r) b₁ q (trail m size q) m₁ = subst (λ (z : Trail). Goal ts (afterBy b r) b₁ q z m₁) (sym (behind (saidBy g₀ b r))) ih in
-        ap (λ (z : Trail). trailWritten g b₁ z x) tr ∙ ih₁ ∙ ap (λ (s : Said). trailWritten g (afterBy b r) (trail m size q) (written t s m)) es
+    over : (r : Request) (s s₁ : S) {t₁ : Tag} {v : Said}
+        → turn₀ s r .said ≡ v
+        → turn s r .said ≡ v
+        → step (walkedOnce ts (turn₀ s r .state) (trail m size q) (written t v m)) size p ≡ Step.Tag t₁ q
+        → requestOf (walkedOnce ts (turn₀ s r .state) (trail m size q) (written t v m)) t₁ ≡ passed
+        → Goal ts (turn₀ s r .state) (turn s₁ passed .state) q (trail (written t v m) size q) (written t v m)
+        → Goal (t ∷ ts) s s₁ p (goesOn t r (trail m size q)) m
+    over r s s₁ {t₁} {v} e₀ e₁ est er ih =
+        let s′ = turn₀ s r .state in
+        let m₁ = written t v m in
+        let x = walkedOnce ts s′ (trail m size q) m₁ in
+        let tr : trail x size p ≡ goesOn t₁ passed (trail x size q) = trail-tag x size p est ∙ ap (λ (z : Request). cutBy z t₁ (trail x size q)) er in
+        let ih₁ : Goal ts s′ (turn s₁ passed .state) q (trail m size q) m₁ =
+        subst (λ (z : Trail). Goal ts s′ (turn s₁ passed .state) q z m₁) (sym (behind v)) ih in
+        ap (λ (y : Said). trailWritten turn s₁ (trail (walkedOnce ts s′ (trail m size q) (written t y m)) size p) (walkedOnce ts s′ (trail m size q)
+        (written t y m))) e₀
+        ∙ ap (λ (z : Trail). trailWritten turn s₁ z x) tr
+        ∙ ap (λ (y : Said). trailWritten turn (turn s₁ passed .state) (trail x size q) (written t₁ y x)) (two .passes s₁)
+        ∙ ih₁
+        ∙ ap (λ (y : S). trailWritten turn y (trail m size q) m₁) (two .state s r)
+        ∙ ap (λ (y : Said). trailWritten turn (turn s r .state) (trail m size q) (written t y m)) (sym e₁)
 
     -- a tag that says nothing in the first walk stays as it is
     module _ (ss : List Said) where
@@ -70,81 +86,75 @@ module _ (g₀ g : Decision) (size : ℕ) where
       kept-request = let f = found m size p st in request-before (writeAll ts ss m) m t q (omega arith) (writes-before m size q ts ss e rest)
 
     -- ---- one tag, the others behind it
-    module _ (quiet : g₀ .answered ≡ false) (b b₁ : Board) (six : length (b .facts .mac) ≡ 6) (few : b .facts .characters ≤ 256) (al : SameFixed b b₁)
-        (ih : (m′ : List ℕ) (b′ : Board) → Follows m′ size q ts e → size ≤ length m′ → length (b′ .facts .mac) ≡ 6 → b′ .facts .characters ≤ 256
-        → SameFixed b′ b₁ → Goal ts b′ b₁ q (trail m′ size q) m′) where
-      next : (r : Request) (s : Said) → Goal ts (afterBy b r) b₁ q (trail (written t s m) size q) (written t s m)
-      next r s =
+    module _ (ih : (m′ : List ℕ) (s s₁ : S) → Follows m′ size q ts e → size ≤ length m′ → Goal ts s s₁ q (trail m′ size q) m′) (s s₁ : S) where
+      next : (v : Said) (s′ s₁′ : S) → Goal ts s′ s₁′ q (trail (written t v m) size q) (written t v m)
+      next v s′ s₁′ =
           let f = found m size p st in
-          let same = after-same b r in
-          let ef = same .facts in
-          let n = written-length t s m in
-          ih (written t s m) (afterBy b r) (follows-same m (written t s m) size q ts e (sym (written-behind t s m q (omega arith))) rest) (omega arith) (ap (λ
-          (x : Facts). length (x .mac)) ef ∙ six)
-          (rw ef few) (record { facts = al .facts ∙ sym ef; line = al .line ∙ sym (same .line); display = al .display ∙ sym (same .display) })
+          let n = written-length t v m in
+          ih (written t v m) s′ s₁′ (follows-same m (written t v m) size q ts e (sym (written-behind t v m q (omega arith))) rest) (omega arith)
 
       -- a tag outside the group is answered by then
-      outside : (r : Request) (a : List ℕ) → saidBy g₀ b r ≡ says a → saidBy g b r ≡ says a → Goal (t ∷ ts) b b₁ p (goesOn t r (trail m size q)) m
-      outside r a e₀ e₁ =
+      outside : (k : OutsideTag) (request : List ℕ) → Goal (t ∷ ts) s s₁ p (goesOn t (asks (Kind.Outside k) request) (trail m size q)) m
+      outside k request =
           let f = found m size p st in
-          let k : ShortSaid (says a) = rw e₀ at (said-short g₀ b r six few) in
-          let w : word (written t (saidBy g₀ b r) m) (p + wordPlace) ≡ 0x8000_0000 + length a =
-          ap (λ (s : Said). word (written t s m) (p + wordPlace)) e₀ ∙ rw (← (f .at)) (answered-word (t .at) (t .size) a m k (omega arith)) in
-          let x = swept ts (afterBy b r) (trail m size q) (written t (saidBy g₀ b r) m) in
-          over r b b₁ (e₀ ∙ sym e₁) (reworded m size p t q (saidBy g₀ b r) ts (answers g₀ (afterBy b r) (trail m size q .requests)) e st rest l w)
-          (answered-passed x (record { at = t .at; id = t .id; size = t .size; word = 0x8000_0000 + length a }) (omega arith)) (next r (saidBy g₀ b r))
+          let r = asks (Kind.Outside k) request in
+          let a = two .answer s k request in
+          let w : word (written t (says a) m) (p + wordPlace) ≡ 0x8000_0000 + length a =
+          rw (← (f .at)) (answered-word (t .at) (t .size) a m (two .fits s k request) (omega arith)) in
+          let ss = turns turn₀ (turn₀ s r .state) (trail m size q .requests) .saids in
+          over r s s₁ (two .answered₀ s k request) (two .answered s k request) (reworded m size p t q (says a) ts ss e st rest l w)
+          (answered-passed (writeAll ts ss (written t (says a) m)) (record { at = t .at; id = t .id; size = t .size; word = 0x8000_0000 + length a })
+          (omega arith))
+          (next (says a) (turn₀ s r .state) (turn s₁ passed .state))
 
       -- a group tag: the first walk leaves it, the second writes what one would have
-      group : {k : FrameTag} {bytes : List ℕ} → requestOf m t ≡ asks (Kind.Group k) bytes
-          → Goal (t ∷ ts) b b₁ p (goesOn t (asks (Kind.Group k) bytes) (trail m size q)) m
-      unfolding saidBy afterBy
-      group {k} {bytes} er =
+      group : {k : FrameTag} {request : List ℕ} → requestOf m t ≡ asks (Kind.Group k) request
+          → Goal (t ∷ ts) s s₁ p (goesOn t (asks (Kind.Group k) request) (trail m size q)) m
+      group {k} {request} er =
           let f = found m size p st in
-          let r = asks (Kind.Group k) bytes in
-          let v = saidBy g b₁ r in
-          let ss = answers g₀ b (trail m size q .requests) in
+          let r = asks (Kind.Group k) request in
+          let s′ = turn₀ s r .state in
+          let s₁′ = turn s₁ r .state in
+          let v = turn s₁ r .said in
+          let ss = turns turn₀ s′ (trail m size q .requests) .saids in
           let x = writeAll ts ss m in
           let tr : trail x size p ≡ goesOn t r (trail x size q) = trail-tag x size p (kept-step ss) ∙ ap (λ (z : Request). cutBy z t (trail x size q))
           (kept-request ss ∙ er) in
           let moved : writeAll ts ss (written t v m) ≡ written t v x = writes-apart t v m size q ts ss e (omega arith) rest in
-          let ih₁ : Goal ts b b₁ q (trail m size q) (written t v m) = subst (λ (z : Trail). Goal ts b b₁ q z (written t v m)) (sym (behind v)) (next r v) in
+          let ih₁ : Goal ts s′ s₁′ q (trail m size q) (written t v m) =
+          subst (λ (z : Trail). Goal ts s′ s₁′ q z (written t v m)) (sym (behind v)) (next v s′ s₁′) in
           let same : trail x size q ≡ trail (written t v x) size q = trail-behind x (written t v x) size q (sym (written-behind t v x q (omega arith))) in
-          let quiet-here : saidBy g₀ b r ≡ silent = rw quiet in
-          let left : swept (t ∷ ts) b (goesOn t r (trail m size q)) m ≡ x = ap (λ (s : Said). writeAll ts ss (written t s m)) quiet-here in
-          let said : v ≡ saidBy g b r = rw (al .facts, al .line) in
-          ap (λ (y : List ℕ). trailWritten g b₁ (trail y size p) y) left
-          ∙ ap (λ (z : Trail). trailWritten g b₁ z x) tr
-          ∙ ap (λ (z : Trail). trailWritten g b₁ z (written t v x)) same
-          ∙ ap (λ (y : List ℕ). trailWritten g b₁ (trail y size q) y) (sym moved)
+          ap (λ (y : Said). trailWritten turn s₁ (trail (writeAll ts ss (written t y m)) size p) (writeAll ts ss (written t y m))) (two .quiet s k request)
+          ∙ ap (λ (z : Trail). trailWritten turn s₁ z x) tr
+          ∙ ap (λ (z : Trail). trailWritten turn s₁′ z (written t v x)) same
+          ∙ ap (λ (y : List ℕ). trailWritten turn s₁′ (trail y size q) y) (sym moved)
           ∙ ih₁
-          ∙ ap (λ (s : Said). trailWritten g b (trail m size q) (written t s m)) said
+          ∙ ap (λ (y : S). trailWritten turn y (trail m size q) (written t v m)) (two .state s r)
+          ∙ ap (λ (y : Said). trailWritten turn (turn s r .state) (trail m size q) (written t y m)) (two .group s₁ s k request)
 
-      at-tag : (r : Request) → requestOf m t ≡ r → Goal (t ∷ ts) b b₁ p (cutBy r t (trail m size q)) m
-      unfolding saidBy afterBy
-      at-tag passed er = let ss = answers g₀ b (trail m size q .requests) in over passed b b₁ refl (kept-step ss) (kept-request ss ∙ er) (next passed silent)
-      at-tag short er = ap (λ (z : Trail). trailWritten g b₁ z m) (trail-tag m size p st ∙ ap (λ (z : Request). cutBy z t (trail m size q)) er)
-      at-tag (asks (Kind.Outside k) bytes) er = outside (asks (Kind.Outside k) bytes) _ refl refl
-      at-tag (asks (Kind.Group k) bytes) er = group er
+      at-tag : (r : Request) → requestOf m t ≡ r → Goal (t ∷ ts) s s₁ p (cutBy r t (trail m size q)) m
+      at-tag passed er =
+          let ss = turns turn₀ (turn₀ s passed .state) (trail m size q .requests) .saids in
+          over passed s s₁ (two .passes₀ s) (two .passes s) (kept-step ss) (kept-request ss ∙ er) (next silent (turn₀ s passed .state) (turn s₁ passed .state))
+      at-tag short er = ap (λ (z : Trail). trailWritten turn s₁ z m) (trail-tag m size p st ∙ ap (λ (z : Request). cutBy z t (trail m size q)) er)
+      at-tag (asks (Kind.Outside k) request) er = outside k request
+      at-tag (asks (Kind.Group k) request) er = group er
 
-  twice-from : (ts : List Tag) (e : Ending) (m : List ℕ) (p : ℕ) (b b₁ : Board) → g₀ .answered ≡ false → Follows m size p ts e → size ≤ length m
-      → length (b .facts .mac) ≡ 6 → b .facts .characters ≤ 256 → SameFixed b b₁
-      → Goal ts b b₁ p (trail m size p) m
+  twice-from : (ts : List Tag) (e : Ending) (m : List ℕ) (p : ℕ) (s s₁ : S) → Follows m size p ts e → size ≤ length m → Goal ts s s₁ p (trail m size p) m
   unfolding trail
-  twice-from [] e m p b b₁ quiet h l six few al =
+  twice-from [] e m p s s₁ h l =
       let tr : trail m size p ≡ ends e = ap (λ (w : Walk). cut m (w .tags) (w .ending)) (follows-walk m size p [] e h) in
-      ap (λ (z : Trail). trailWritten g b₁ z m) tr ∙ ap (λ (z : Trail). trailWritten g b z m) (sym tr)
-  twice-from (t ∷ ts) e m p b b₁ quiet h l six few al =
-      subst (λ (z : Trail). Goal (t ∷ ts) b b₁ p z m) (sym (trail-tag m size p (h .1)))
-      (at-tag t ts e m p (h .0) (h .1) (h .2) l quiet b b₁ six few al (λ m′ b′ f′ l′ s′ w′ a′. twice-from ts e m′ (h .0) b′ b₁ quiet f′ l′ s′ w′ a′)
-      (requestOf m t) refl)
+      ap (λ (z : Trail). trailWritten turn s₁ z m) tr ∙ ap (λ (z : Trail). trailWritten turn s z m) (sym tr)
+  twice-from (t ∷ ts) e m p s s₁ h l =
+      subst (λ (z : Trail). Goal (t ∷ ts) s s₁ p z m) (sym (trail-tag m size p (h .1)))
+      (at-tag t ts e m p (h .0) (h .1) (h .2) l (λ m′ s′ s₁′ f′ l′. twice-from ts e m′ (h .0) s′ s₁′ f′ l′) s s₁ (requestOf m t) refl)
 
--- a message walked once with its group left alone, and once more, is one walk's
-pub twice : (g₀ g : Decision) (m : List ℕ) (size : ℕ) (b b₁ : Board) → g₀ .answered ≡ false → size ≤ length m → length (b .facts .mac) ≡ 6
-    → b .facts .characters ≤ 256 → SameFixed b b₁
-    → {m₁ : List ℕ} → m₁ ≡ trailWritten g₀ b (trail m size header) m → trailWritten g b₁ (trail m₁ size header) m₁ ≡ trailWritten g b (trail m size header) m
-unfolding trail
-twice g₀ g m size b b₁ quiet l six few al {m₁} e =
-    let w = walkFrom m size header in
-    let x : m₁ ≡ writeAll (w .tags) (answers g₀ b (trail m size header .requests)) m = e ∙ cut-writes g₀ b m (w .tags) (w .ending) m in
-    ap (λ (y : List ℕ). trailWritten g b₁ (trail y size header) y) x ∙ twice-from g₀ g size (w .tags) (w .ending) m header b b₁ quiet
-    (follows m size header) l six few al
+  -- a message walked once with its group left alone, and once more, is one walk's
+  pub twice : (m : List ℕ) (s s₁ : S) → size ≤ length m
+      → {m₁ : List ℕ} → m₁ ≡ writeAll (trail m size header .tags) (turns turn₀ s (trail m size header .requests) .saids) m
+      → trailWritten turn s₁ (trail m₁ size header) m₁ ≡ trailWritten turn s (trail m size header) m
+  unfolding trail
+  twice m s s₁ l {m₁} e =
+      let w = walkFrom m size header in
+      let x = e ∙ cut-writes turn₀ s m (w .tags) (w .ending) m in
+      ap (λ (y : List ℕ). trailWritten turn s₁ (trail y size header) y) x ∙ twice-from (w .tags) (w .ending) m header s s₁ (follows m size header) l

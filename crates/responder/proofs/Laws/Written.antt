@@ -15,12 +15,10 @@ use Rattle.message.specs.Walk.{sizePlace, wordPlace, tagAt, step}
 use Rattle.message.specs.declared.walk.Ending.{Ending}
 use Rattle.message.specs.declared.walk.Step.{Step}
 use Rattle.message.specs.declared.walk.Tag.{Tag}
-use Rattle.board.specs.declared.record.Board.{Board}
 use Rattle.answers.specs.Reply.{answered}
-use Rattle.display.specs.declared.decision.Decision.{Decision}
 use Rattle.requests.specs.Requests.{Request, passed, short, asks, requestOf, cutBy, cut}
-use Rattle.responder.specs.Answers.{Said, silent, says, saidBy, afterBy, answers}
 use Rattle.responder.specs.Reply.{written, writeAll}
+use Rattle.responder.specs.Turns.{Said, silent, says, Turn, turns}
 
 -- ---- one answer
 module _ (at size : ℕ) (answer m : List ℕ) where
@@ -50,10 +48,12 @@ module _ (at size : ℕ) (answer m : List ℕ) where
   pub answered-word : length answer < 2 ^ 31 → at + tagHeader ≤ length m → word (answered at size answer m) (at + wordPlace) ≡ newWord
   unfolding answered
   answered-word l h =
-      number-before 4 (at + wordPlace) (at + tagHeader) (put (at + tagHeader) (take size answer) marked) marked (omega arith) (take-put (at + tagHeader) (at + tagHeader) (take size answer) marked (omega arith))
+      number-before 4 (at + wordPlace) (at + tagHeader) (put (at + tagHeader) (take size answer) marked) marked (omega arith) (take-put
+      (at + tagHeader) (at + tagHeader) (take size answer) marked (omega arith))
       ∙ number-put 4 (at + wordPlace) newWord m (omega arith) (omega arith)
 
-  pub answered-value : at + tagHeader + size ≤ length m → take (length (take size answer)) (drop (at + tagHeader) (answered at size answer m)) ≡ take size answer
+  pub answered-value : at + tagHeader + size ≤ length m
+      → take (length (take size answer)) (drop (at + tagHeader) (answered at size answer m)) ≡ take size answer
   unfolding answered
   answered-value h =
       let l = stored-most in
@@ -89,18 +89,22 @@ writes-before m size p (t ∷ ts) (s ∷ ss) e h =
     take-earlier p (h .0) (writeAll ts ss m₁) m₁ (omega arith) (writes-before m₁ size (h .0) ts ss e rest) ∙ written-before t s m p (omega arith)
 
 -- a step at a tag whose header has another word
-step-reworded : (m m′ : List ℕ) (size p : ℕ) {t : Tag} {next w : ℕ} → step m size p ≡ Step.Tag t next → word m′ p ≡ word m p → word m′ (p + sizePlace) ≡ word m (p + sizePlace) → word m′ (p + wordPlace) ≡ w
+step-reworded : (m m′ : List ℕ) (size p : ℕ) {t : Tag} {next w : ℕ} → step m size p ≡ Step.Tag t next → word m′ p ≡ word m p
+    → word m′ (p + sizePlace) ≡ word m (p + sizePlace) → word m′ (p + wordPlace) ≡ w
     → step m′ size p ≡ Step.Tag (record { at = t .at; id = t .id; size = t .size; word = w }) next
 unfolding tagAt
 step-reworded m m′ size p {t} {next} {w} e ei es ew =
     let f = found m size p e in
     let id : t .id ≡ word m p = ap (λ (x : Tag). x .id) (f .is) in
     let size-is : t .size ≡ word m (p + sizePlace) = ap (λ (x : Tag). x .size) (f .is) in
-    let s = sym (step-tag m′ size p (λ z. omega arith) {id = t .id} (id ∙ sym ei) (tag-named m size p e) {v = t .size} (size-is ∙ sym es) refl (let n = f .next-is in let q = f .fits in omega arith) (sym ew)) in
-    rw (f .at, f .next-is) s
+    let n = f .next-is in
+    let q = f .fits in
+    rw (f .at, f .next-is)
+    (sym (step-tag m′ size p (λ z. omega arith) {id = t .id} (id ∙ sym ei) (tag-named m size p e) {v = t .size} (size-is ∙ sym es) refl (omega arith) (sym ew)))
 
 -- the header of a tag, with what is written into it and behind it
-module _ (m : List ℕ) (size p : ℕ) (t : Tag) (next : ℕ) (s : Said) (ts : List Tag) (ss : List Said) (e : Ending) (h : step m size p ≡ Step.Tag t next) (rest : Follows m size next ts e) (l : size ≤ length m) where
+module _ (m : List ℕ) (size p : ℕ) (t : Tag) (next : ℕ) (s : Said) (ts : List Tag) (ss : List Said) (e : Ending) (h : step m size p ≡ Step.Tag t next)
+    (rest : Follows m size next ts e) (l : size ≤ length m) where
   abbrev m₁ : List ℕ
   m₁ = written t s m
 
@@ -116,12 +120,14 @@ module _ (m : List ℕ) (size p : ℕ) (t : Tag) (next : ℕ) (s : Said) (ts : L
   word-same : (k : ℕ) → k + 4 ≤ wordPlace → word m₂ (p + k) ≡ word m (p + k)
   word-same k b =
       let f = found m size p h in
-      number-before 4 (p + k) next m₂ m₁ (omega arith) before ∙ number-before 4 (p + k) (p + wordPlace) m₁ m (omega arith) (written-before t s m (p + wordPlace) (omega arith))
+      number-before 4 (p + k) next m₂ m₁ (omega arith) before ∙ number-before 4 (p + k) (p + wordPlace) m₁ m (omega arith) (written-before t s m
+      (p + wordPlace) (omega arith))
 
   id-same : word m₂ p ≡ word m p
   id-same =
       let f = found m size p h in
-      number-before 4 p next m₂ m₁ (omega arith) before ∙ number-before 4 p (p + wordPlace) m₁ m (omega arith) (written-before t s m (p + wordPlace) (omega arith))
+      number-before 4 p next m₂ m₁ (omega arith) before ∙ number-before 4 p (p + wordPlace) m₁ m (omega arith) (written-before t s m (p + wordPlace)
+      (omega arith))
 
   pub reworded : {w : ℕ} → word m₁ (p + wordPlace) ≡ w → step m₂ size p ≡ Step.Tag (record { at = t .at; id = t .id; size = t .size; word = w }) next
   reworded ew =
@@ -129,13 +135,18 @@ module _ (m : List ℕ) (size p : ℕ) (t : Tag) (next : ℕ) (s : Said) (ts : L
       step-reworded m m₂ size p h id-same (word-same sizePlace (omega arith)) (number-before 4 (p + wordPlace) next m₂ m₁ (omega arith) before ∙ ew)
 
 -- the tags behind a cut say nothing
-pub cut-writes : (g : Decision) (b : Board) (m : List ℕ) (ts : List Tag) (e : Ending) (x : List ℕ)
-    → writeAll (cut m ts e .tags) (answers g b (cut m ts e .requests)) x ≡ writeAll ts (answers g b (cut m ts e .requests)) x
-cut-writes g b m [] e x = refl
-cut-writes g b m (t ∷ ts) e x = go (requestOf m t) (λ (r : Request). cut-writes g (afterBy b r) m ts e (written t (saidBy g b r) x))
+pub cut-writes : {S : Type 0} (turn : S → Request → Turn S) (s : S) (m : List ℕ) (ts : List Tag) (e : Ending) (x : List ℕ)
+    → writeAll (cut m ts e .tags) (turns turn s (cut m ts e .requests) .saids) x ≡ writeAll ts (turns turn s (cut m ts e .requests) .saids) x
+cut-writes turn s m [] e x = refl
+cut-writes {S} turn s m (t ∷ ts) e x = go (requestOf m t) (λ (r : Request). cut-writes turn (turn s r .state) m ts e (written t (turn s r .said) x))
   where
-    go : (r : Request) → ((q : Request) → writeAll (cut m ts e .tags) (answers g (afterBy b q) (cut m ts e .requests)) (written t (saidBy g b q) x) ≡ writeAll ts (answers g (afterBy b q) (cut m ts e .requests)) (written t (saidBy g b q) x))
-        → writeAll (cutBy r t (cut m ts e) .tags) (answers g b (cutBy r t (cut m ts e) .requests)) x ≡ writeAll (t ∷ ts) (answers g b (cutBy r t (cut m ts e) .requests)) x
+    rest : Request → List Said
+    rest r = turns turn (turn s r .state) (cut m ts e .requests) .saids
+
+    go : (r : Request)
+        → ((q : Request) → writeAll (cut m ts e .tags) (rest q) (written t (turn s q .said) x) ≡ writeAll ts (rest q) (written t (turn s q .said) x))
+        → writeAll (cutBy r t (cut m ts e) .tags) (turns turn s (cutBy r t (cut m ts e) .requests) .saids) x
+        ≡ writeAll (t ∷ ts) (turns turn s (cutBy r t (cut m ts e) .requests) .saids) x
     go passed h = h passed
     go short h = refl
-    go (asks k bytes) h = h (asks k bytes)
+    go (asks k request) h = h (asks k request)

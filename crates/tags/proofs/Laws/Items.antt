@@ -5,7 +5,9 @@ use Prim.Native.Nat.{ℕ, _%_, _≤_, min, max}
 use native.Mathlib.Omega.{arith}
 use borrow.Author.Tests.{leb-true, le-leb}
 use lib.Dec.{eqb, leb}
-use Rattle.board.specs.Valid.{validState, validDevice, validClock, validVoltage}
+use Rattle.words.proofs.Laws.Clamp.{clamp-least, clamp-most}
+use Rattle.words.specs.Clamp.{clamp}
+use Rattle.board.specs.Items.{validState, validDevice, validClock, validVoltage}
 use Rattle.board.specs.declared.items.Clock.{Clock}
 use Rattle.board.specs.declared.items.Device.{Device}
 use Rattle.board.specs.declared.items.State.{State}
@@ -13,7 +15,7 @@ use Rattle.board.specs.declared.items.Voltage.{Voltage}
 use Rattle.table.specs.declared.kinds.ClockTag.{ClockTag}
 use Rattle.table.specs.declared.kinds.PowerTag.{PowerTag}
 use Rattle.table.specs.declared.kinds.VoltageTag.{VoltageTag}
-use Rattle.tags.specs.Clock.{clamp, settled, clockAfter, clockValue}
+use Rattle.tags.specs.Clock.{settled, clockAfter, clockValue}
 use Rattle.tags.specs.Power.{powerAfter, powerValue}
 use Rattle.tags.specs.State.{switched}
 use Rattle.tags.specs.Voltage.{voltageAfter, voltageValue}
@@ -50,7 +52,9 @@ pub switched-valid : (x : ℕ) (s : State) → validState s ≡ true → validSt
 unfolding validState switched
 switched-valid x s v = go (s .exists) (s .on) v
   where
-    go : (exists on : Bool) → (exists || not on) ≡ true → (cond exists (record { exists = true; on = eqb (x % 2) 1 }) s .exists || not (cond exists (record { exists = true; on = eqb (x % 2) 1 }) s .on)) ≡ true
+    go : (exists on : Bool) → (exists || not on) ≡ true
+        → (cond exists (record { exists = true; on = eqb (x % 2) 1 }) s .exists || not (cond exists (record { exists = true; on = eqb (x % 2) 1 })
+        s .on)) ≡ true
     go true on e = refl
     go false on e = v
 
@@ -91,7 +95,8 @@ clock-is c v =
     let p = and-eq-true-iff (validState (c .state)) (not (c .state .exists) || leb (c .min) (c .rate) && leb (c .rate) (c .max)) .0 v in
     record {
       state = p .0;
-      range = λ e. let q = and-eq-true-iff (leb (c .min) (c .rate)) (leb (c .rate) (c .max)) .0 (where-set (c .state .exists) (leb (c .min) (c .rate) && leb (c .rate) (c .max)) (p .1) e) in
+      range = λ e. let w = where-set (c .state .exists) (leb (c .min) (c .rate) && leb (c .rate) (c .max)) (p .1) e in
+          let q = and-eq-true-iff (leb (c .min) (c .rate)) (leb (c .rate) (c .max)) .0 w in
           (leb-true (c .min) (c .rate) (q .0), leb-true (c .rate) (c .max) (q .1));
     }
 
@@ -106,11 +111,13 @@ settled-valid : (x : ℕ) (c : Clock) → validClock c ≡ true → validClock (
 unfolding settled
 settled-valid x c v = go (c .state .exists) refl
   where
-    go : (exists : Bool) → c .state .exists ≡ exists → validClock (cond exists (record { state = c .state; rate = clamp (c .min) (c .max) x; min = c .min; max = c .max }) c) ≡ true
+    go : (exists : Bool) → c .state .exists ≡ exists
+        → validClock (cond exists (record { state = c .state; rate = clamp (c .min) (c .max) x; min = c .min; max = c .max }) c) ≡ true
     go true e =
         let k = clock-is c v in
         let r = k .range e in
-        is-clock (record { state = c .state; rate = clamp (c .min) (c .max) x; min = c .min; max = c .max }) (record { state = k .state; range = λ _. (omega arith, omega arith) })
+        is-clock (record { state = c .state; rate = clamp (c .min) (c .max) x; min = c .min; max = c .max })
+        (record { state = k .state; range = λ _. (clamp-least (c .min) (c .max) x (omega arith), clamp-most (c .min) (c .max) x) })
     go false e = v
 
 pub clock-valid : (t : ClockTag) (x : ℕ) (c : Clock) → validClock c ≡ true → validClock (clockAfter t x c) ≡ true
@@ -129,7 +136,8 @@ pub voltage-valid : (t : VoltageTag) (x : ℕ) (v : Voltage) → validVoltage v 
 unfolding voltageAfter validVoltage
 voltage-valid VoltageTag.Set x v h = go (v .valid) refl
   where
-    go : (valid : Bool) → v .valid ≡ valid → validVoltage (cond valid (record { valid = v .valid; value = clamp (v .min) (v .max) x; min = v .min; max = v .max }) v) ≡ true
+    go : (valid : Bool) → v .valid ≡ valid
+        → validVoltage (cond valid (record { valid = v .valid; value = clamp (v .min) (v .max) x; min = v .min; max = v .max }) v) ≡ true
     go true e =
         let k = where-set (v .valid) (leb (v .min) (v .value) && leb (v .value) (v .max) && leb (v .max) 10000) h e in
         let ab = and-eq-true-iff (leb (v .min) (v .value) && leb (v .value) (v .max)) (leb (v .max) 10000) .0 k in
@@ -137,8 +145,10 @@ voltage-valid VoltageTag.Set x v h = go (v .valid) refl
         let low = leb-true (v .min) (v .value) (a .0) in
         let high = leb-true (v .value) (v .max) (a .1) in
         let n = clamp (v .min) (v .max) x in
+        let least = le-leb (v .min) n (clamp-least (v .min) (v .max) x (omega arith)) in
+        let most = le-leb n (v .max) (clamp-most (v .min) (v .max) x) in
         only-where (v .valid) (leb (v .min) n && leb n (v .max) && leb (v .max) 10000)
-        (λ _. both (leb (v .min) n && leb n (v .max)) (leb (v .max) 10000) (both (leb (v .min) n) (leb n (v .max)) (le-leb (v .min) n (omega arith)) (le-leb n (v .max) (omega arith))) (ab .1))
+        (λ _. both (leb (v .min) n && leb n (v .max)) (leb (v .max) 10000) (both (leb (v .min) n) (leb n (v .max)) least most) (ab .1))
     go false e = h
 voltage-valid VoltageTag.Get x v h = h
 voltage-valid VoltageTag.Max x v h = h

@@ -1,75 +1,45 @@
--- What a tag outside the group keeps: a valid record stays valid; facts, command line and display stay.
+-- A valid record stays valid under every tag outside the group.
 use mathlib.Core.Bool.{Bool, true}
 use mathlib.Core.List.{List}
-use mathlib.Core.Path.{_≡_, refl}
+use mathlib.Core.Path.{_≡_}
 use Prim.Native.Nat.{ℕ}
 use lib.ListN.{getD}
 use Rattle.words.proofs.Laws.All.{all-at, all-set}
 use Rattle.words.specs.All.{all}
-use Rattle.board.proofs.Laws.Valid.{valid-parts, parts-valid, no-device-valid, no-clock-valid, no-voltage-valid}
-use Rattle.board.specs.Items.{noDevice, noClock, noVoltage}
-use Rattle.board.specs.Valid.{valid, validDevice, validClock, validVoltage}
+use Rattle.board.proofs.Laws.Items.{no-device-valid, no-clock-valid, no-voltage-valid}
+use Rattle.board.proofs.Laws.Record.{valid-parts, devices-valid, clocks-valid, voltages-valid}
+use Rattle.board.specs.Items.{noDevice, noClock, noVoltage, validDevice, validClock, validVoltage}
+use Rattle.board.specs.Record.{valid}
 use Rattle.board.specs.declared.record.Board.{Board}
 use Rattle.table.specs.declared.kinds.OutsideTag.{OutsideTag}
 use Rattle.tags.proofs.Laws.Items.{power-valid, clock-valid, voltage-valid}
-use Rattle.tags.specs.Clock.{clockPlace, clockAfter}
-use Rattle.tags.specs.Outside.{outsideAfter, withDevices, withClocks, withVoltages}
-use Rattle.tags.specs.Place.{change}
-use Rattle.tags.specs.Power.{devicePlace, powerAfter}
-use Rattle.tags.specs.Voltage.{voltagePlace, voltageAfter}
+use Rattle.tags.specs.Clock.{clockPlace, clockAfter, clocksAfter}
+use Rattle.tags.specs.Outside.{outsideAfter}
+use Rattle.tags.specs.Place.{change, newValue, idOf, itemsAfter}
+use Rattle.tags.specs.Power.{devicePlace, powerAfter, devicesAfter}
+use Rattle.tags.specs.Voltage.{voltagePlace, voltageAfter, voltagesAfter}
 use Rattle.tags.specs.declared.place.Place.{Place}
 
 -- a change that keeps an item valid keeps all valid
-all-change : {A : Type 0} (p : A → Bool) (none : A) (f : A → A) (xs : List A) (at : Place) → p none ≡ true → ((x : A) → p x ≡ true → p (f x) ≡ true) → all p xs ≡ true
-    → all p (change none f xs at) ≡ true
-all-change p none f xs (Place.At i) n k h = all-set p xs i (f (getD xs i none)) (k (getD xs i none) (all-at p none xs i n h)) h
-all-change p none f xs Place.Unlisted n k h = h
+module _ {A : Type 0} (p : A → Bool) (none : A) (n : p none ≡ true) where
+  all-change : (f : A → A) (xs : List A) (at : Place) → ((x : A) → p x ≡ true → p (f x) ≡ true) → all p xs ≡ true → all p (change none f xs at) ≡ true
+  all-change f xs (Place.At i) k h = all-set p xs i (f (getD xs i none)) (k (getD xs i none) (all-at p none xs i n h)) h
+  all-change f xs Place.Unlisted k h = h
 
-pub outside-valid : (k : OutsideTag) (a x : ℕ) (b : Board) → valid b ≡ true → valid (outsideAfter k a x b) ≡ true
+  items-valid : (place : ℕ → Place) (after : ℕ → A → A) → ((x : ℕ) (y : A) → p y ≡ true → p (after x y) ≡ true) → (request : List ℕ) (xs : List A)
+      → all p xs ≡ true → all p (itemsAfter none place after request xs) ≡ true
+  items-valid place after k request xs = all-change (after (newValue request)) xs (place (idOf request)) (k (newValue request))
+
+pub outside-valid : (k : OutsideTag) (request : List ℕ) (b : Board) → valid b ≡ true → valid (outsideAfter k request b) ≡ true
 unfolding outsideAfter
-outside-valid (OutsideTag.Fact t) a x b v = v
-outside-valid (OutsideTag.Power t) a x b v =
-    let p = valid-parts b v in
-    let xs = change noDevice (powerAfter t x) (b .devices) (devicePlace a) in
-    parts-valid (withDevices b xs) (record {
-      facts = p .facts;
-      devices = all-change validDevice noDevice (powerAfter t x) (b .devices) (devicePlace a) no-device-valid (power-valid t x) (p .devices);
-      clocks = p .clocks;
-      voltages = p .voltages;
-      display = p .display;
-    })
-outside-valid (OutsideTag.Clock t) a x b v =
-    let p = valid-parts b v in
-    let xs = change noClock (clockAfter t x) (b .clocks) (clockPlace a) in
-    parts-valid (withClocks b xs) (record {
-      facts = p .facts;
-      devices = p .devices;
-      clocks = all-change validClock noClock (clockAfter t x) (b .clocks) (clockPlace a) no-clock-valid (clock-valid t x) (p .clocks);
-      voltages = p .voltages;
-      display = p .display;
-    })
-outside-valid (OutsideTag.Voltage t) a x b v =
-    let p = valid-parts b v in
-    let xs = change noVoltage (voltageAfter t x) (b .voltages) (voltagePlace a) in
-    parts-valid (withVoltages b xs) (record {
-      facts = p .facts;
-      devices = p .devices;
-      clocks = p .clocks;
-      voltages = all-change validVoltage noVoltage (voltageAfter t x) (b .voltages) (voltagePlace a) no-voltage-valid (voltage-valid t x) (p .voltages);
-      display = p .display;
-    })
-outside-valid (OutsideTag.Temperature t) a x b v = v
-
--- two records with the same facts, command line and display
-pub record SameFixed (b b₁ : Board) : Type 0 where
-  pub facts : b₁ .facts ≡ b .facts
-  pub line : b₁ .line ≡ b .line
-  pub display : b₁ .display ≡ b .display
-
-pub outside-fixed : (k : OutsideTag) (a x : ℕ) (b : Board) → SameFixed b (outsideAfter k a x b)
-unfolding outsideAfter
-outside-fixed (OutsideTag.Fact t) a x b = record { facts = refl; line = refl; display = refl }
-outside-fixed (OutsideTag.Power t) a x b = record { facts = refl; line = refl; display = refl }
-outside-fixed (OutsideTag.Clock t) a x b = record { facts = refl; line = refl; display = refl }
-outside-fixed (OutsideTag.Voltage t) a x b = record { facts = refl; line = refl; display = refl }
-outside-fixed (OutsideTag.Temperature t) a x b = record { facts = refl; line = refl; display = refl }
+outside-valid (OutsideTag.Fact t) request b v = v
+outside-valid (OutsideTag.Power t) request b v =
+    devices-valid b (devicesAfter t request (b .devices)) v
+    (items-valid validDevice noDevice no-device-valid devicePlace (powerAfter t) (power-valid t) request (b .devices) (valid-parts b v .devices))
+outside-valid (OutsideTag.Clock t) request b v =
+    clocks-valid b (clocksAfter t request (b .clocks)) v
+    (items-valid validClock noClock no-clock-valid clockPlace (clockAfter t) (clock-valid t) request (b .clocks) (valid-parts b v .clocks))
+outside-valid (OutsideTag.Voltage t) request b v =
+    voltages-valid b (voltagesAfter t request (b .voltages)) v
+    (items-valid validVoltage noVoltage no-voltage-valid voltagePlace (voltageAfter t) (voltage-valid t) request (b .voltages) (valid-parts b v .voltages))
+outside-valid (OutsideTag.Temperature t) request b v = v

@@ -1,9 +1,11 @@
 -- A tag outside the group as the walk serves it: on the item at its place, or on an absent one.
 use mathlib.Core.Bool.{true≢false}
+use mathlib.Core.List.{List}
 use mathlib.Core.Path.{_≡_, refl, sym, ap, _∙_}
 use Prim.Native.Nat.{ℕ, _<_}
 use lib.ListN.{getD, set}
 use Rattle.board.specs.Items.{noDevice, noClock, noVoltage}
+use Rattle.board.specs.Record.{withDevices, withClocks, withVoltages}
 use Rattle.board.specs.declared.items.Clock.{Clock}
 use Rattle.board.specs.declared.items.Device.{Device}
 use Rattle.board.specs.declared.items.Voltage.{Voltage}
@@ -14,45 +16,52 @@ use Rattle.table.specs.declared.kinds.OutsideTag.{OutsideTag}
 use Rattle.table.specs.declared.kinds.PowerTag.{PowerTag}
 use Rattle.table.specs.declared.kinds.TemperatureTag.{TemperatureTag}
 use Rattle.table.specs.declared.kinds.VoltageTag.{VoltageTag}
-use Rattle.answers.specs.declared.answer.Answer.{Answer}
+use Rattle.answers.specs.Answer.{twoWords}
 use Rattle.tags.proofs.Laws.Items.{power-absent, clock-absent, voltage-absent}
 use Rattle.tags.specs.Clock.{clockAfter, clockValue}
 use Rattle.tags.specs.Fact.{factAnswer}
 use Rattle.tags.specs.Named.{itemPlace, itemCount, Named, absentValue}
-use Rattle.tags.specs.Outside.{outsideAnswer, outsideAfter, withDevices, withClocks, withVoltages}
+use Rattle.tags.specs.Outside.{outsideAnswer, outsideAfter}
+use Rattle.tags.specs.Place.{idOf, newValue}
 use Rattle.tags.specs.Power.{powerAfter, powerValue}
 use Rattle.tags.specs.Temperature.{temperatureValue}
 use Rattle.tags.specs.Voltage.{voltageAfter, voltageValue}
 use Rattle.tags.specs.declared.place.Place.{Place}
 
 -- the tag says this answer and leaves the record b′
-pub record Serves (k : OutsideTag) (a x : ℕ) (b : Board) (answer : Answer) (b′ : Board) : Type 0 where
-  pub says : answer ≡ outsideAnswer k a x b
-  pub left : b′ ≡ outsideAfter k a x b
+pub record Serves (k : OutsideTag) (request : List ℕ) (b : Board) (answer : List ℕ) (b′ : Board) : Type 0 where
+  pub says : answer ≡ outsideAnswer k request b
+  pub left : b′ ≡ outsideAfter k request b
 
 -- a place is within the items of its family
 pub within-items : {k : OutsideTag} {a : ℕ} {r : Place} → Named k a r → {k′ : OutsideTag} → k ≡ k′ → {i : ℕ} → r ≡ Place.At i → i < itemCount k′
 within-items p ek e = rw ek at (rw e at (p .within))
 
-module _ (a x : ℕ) (b : Board) where
+-- a fact, whatever the request
+pub serves-fact : (request : List ℕ) (b : Board) {k : OutsideTag} {t : FactTag} → k ≡ OutsideTag.Fact t
+    → Serves k request b (factAnswer t (b .facts) (b .line)) b
+unfolding outsideAnswer outsideAfter
+serves-fact request b ek = rw ek (record { says = refl; left = refl })
+
+-- with the id and what a set asks for, as they were read from the request
+module _ (request : List ℕ) (b : Board) {a x : ℕ} (ea : a ≡ idOf request) (ex : x ≡ newValue request) where
   -- an id that is not listed: the answer of an absent item, and nothing changes
-  pub serves-unlisted : (k : OutsideTag) {r : Place} → Named k a r → r ≡ Place.Unlisted → {n : ℕ} → n ≡ absentValue k → Serves k a x b (Answer.Pair a n) b
+  pub serves-unlisted : (k : OutsideTag) {r : Place} → Named k a r → r ≡ Place.Unlisted → {n : ℕ} → n ≡ absentValue k → Serves k request b (twoWords a n) b
   unfolding outsideAnswer outsideAfter
   serves-unlisted (OutsideTag.Fact t) p e en = absurd (true≢false cc)
-  serves-unlisted (OutsideTag.Power t) p e en = record { says = rw (← (p .is), e, power-absent t x noDevice refl, ← en); left = rw (← (p .is), e) }
-  serves-unlisted (OutsideTag.Clock t) p e en = record { says = rw (← (p .is), e, clock-absent t x noClock refl, ← en); left = rw (← (p .is), e) }
-  serves-unlisted (OutsideTag.Voltage t) p e en = record { says = rw (← (p .is), e, voltage-absent t x noVoltage refl, ← en); left = rw (← (p .is), e) }
+  serves-unlisted (OutsideTag.Power t) p e en =
+      record { says = rw (← ea, ← ex, ← (p .is), e, power-absent t x noDevice refl, ← en); left = rw (← ea, ← (p .is), e) }
+  serves-unlisted (OutsideTag.Clock t) p e en =
+      record { says = rw (← ea, ← ex, ← (p .is), e, clock-absent t x noClock refl, ← en); left = rw (← ea, ← (p .is), e) }
+  serves-unlisted (OutsideTag.Voltage t) p e en =
+      record { says = rw (← ea, ← ex, ← (p .is), e, voltage-absent t x noVoltage refl, ← en); left = rw (← ea, ← (p .is), e) }
   serves-unlisted (OutsideTag.Temperature t) p e en = absurd (true≢false cc)
 
   module _ {k : OutsideTag} where
-    pub serves-fact : {t : FactTag} → k ≡ OutsideTag.Fact t → {answer : Answer} → answer ≡ factAnswer t (b .facts) → Serves k a x b answer b
-    unfolding outsideAnswer outsideAfter
-    serves-fact ek e = rw ek (record { says = e; left = refl })
-
     pub serves-temperature : {t : TemperatureTag} → k ≡ OutsideTag.Temperature t → {n : ℕ} → n ≡ temperatureValue t a (b .temperature)
-        → Serves k a x b (Answer.Pair a n) b
+        → Serves k request b (twoWords a n) b
     unfolding outsideAnswer outsideAfter
-    serves-temperature ek e = rw ek (record { says = rw e; left = refl })
+    serves-temperature ek e = rw ek (record { says = rw (e, ea); left = refl })
 
     -- the item at the place
     module _ {r : Place} (p : Named k a r) {i : ℕ} (e : r ≡ Place.At i) where
@@ -61,17 +70,23 @@ module _ (a x : ℕ) (b : Board) where
 
       pub serves-power : {t : PowerTag} → k ≡ OutsideTag.Power t → {d : Device} → d ≡ powerAfter t x (getD (b .devices) i noDevice) → {n : ℕ}
           → n ≡ powerValue t d
-          → Serves k a x b (Answer.Pair a n) (withDevices b (set (b .devices) i d))
+          → Serves k request b (twoWords a n) (withDevices b (set (b .devices) i d))
       unfolding outsideAnswer outsideAfter
-      serves-power {t} ek ed en = let q = placed (OutsideTag.Power t) ek in rw ek (record { says = rw (q, ← ed, ← en); left = rw (q, ← ed) })
+      serves-power {t} ek ed en =
+          let q = placed (OutsideTag.Power t) ek in
+          rw ek (record { says = rw (← ea, ← ex, q, ← ed, ← en); left = rw (← ea, ← ex, q, ← ed) })
 
       pub serves-clock : {t : ClockTag} → k ≡ OutsideTag.Clock t → {c : Clock} → c ≡ clockAfter t x (getD (b .clocks) i noClock) → {n : ℕ} → n ≡ clockValue t c
-          → Serves k a x b (Answer.Pair a n) (withClocks b (set (b .clocks) i c))
+          → Serves k request b (twoWords a n) (withClocks b (set (b .clocks) i c))
       unfolding outsideAnswer outsideAfter
-      serves-clock {t} ek ec en = let q = placed (OutsideTag.Clock t) ek in rw ek (record { says = rw (q, ← ec, ← en); left = rw (q, ← ec) })
+      serves-clock {t} ek ec en =
+          let q = placed (OutsideTag.Clock t) ek in
+          rw ek (record { says = rw (← ea, ← ex, q, ← ec, ← en); left = rw (← ea, ← ex, q, ← ec) })
 
       pub serves-voltage : {t : VoltageTag} → k ≡ OutsideTag.Voltage t → {v : Voltage} → v ≡ voltageAfter t x (getD (b .voltages) i noVoltage) → {n : ℕ}
           → n ≡ voltageValue t v
-          → Serves k a x b (Answer.Pair a n) (withVoltages b (set (b .voltages) i v))
+          → Serves k request b (twoWords a n) (withVoltages b (set (b .voltages) i v))
       unfolding outsideAnswer outsideAfter
-      serves-voltage {t} ek ev en = let q = placed (OutsideTag.Voltage t) ek in rw ek (record { says = rw (q, ← ev, ← en); left = rw (q, ← ev) })
+      serves-voltage {t} ek ev en =
+          let q = placed (OutsideTag.Voltage t) ek in
+          rw ek (record { says = rw (← ea, ← ex, q, ← ev, ← en); left = rw (← ea, ← ex, q, ← ev) })

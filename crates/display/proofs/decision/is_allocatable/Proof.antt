@@ -1,4 +1,4 @@
-use Rattle.display.proofs.Laws.Align.{one-bit-least, up-below}
+use Rattle.words.proofs.Laws.Align.{one-bit-least, up-below}
 use Rattle.display.proofs.Laws.Decision.{allocatable-by, not-aligned}
 use native.Mathlib.Omega.{arith}
 use mathlib.Core.Path.{sym, _∙_}
@@ -23,7 +23,12 @@ add-result : tie.Need-add-result
 add-result c = let aligned = sym (c .before .before .before .one-bit .ensures) ∙ c .before .before .if1 .taken in
     let h = c .before .lowest-multiple .ensures in
     let k = c .need .ensures in
-    omega (arith, up-below _ (c .before .before .before .before .before .args .d .region .base) (one-bit-least _ aligned), need-most _ (c .before .before .before .before .before .pre))
+    omega (
+      arith,
+      up-below _ (c .before .before .before .before .before .args .d .region .base) (one-bit-least _ aligned),
+      need-most _
+          (c .before .before .before .before .before .pre),
+    )
 
 cast-result-2 : tie.Need-cast-result-2
 cast-result-2 c = search needs
@@ -35,7 +40,9 @@ add-result-2 : tie.Need-add-result-2
 add-result-2 c = search needs
 
 returns : tie.Need-returns
-returns c = allocatable-by _ _ (sym (c .before .before .before .before .before .one-bit .ensures) ∙ c .before .before .before .before .if1 .taken) (c .before .before .before .lowest-multiple .ensures) (c .before .before .need .ensures)
+returns c =
+    allocatable-by _ _ (sym (c .before .before .before .before .before .one-bit .ensures) ∙ c .before .before .before .before .if1 .taken)
+    (c .before .before .before .lowest-multiple .ensures) (c .before .before .need .ensures)
 
 returns-2 : tie.Need-returns-2
 returns-2 c = not-aligned _ _ (sym (c .before .one-bit .ensures) ∙ c .if1 .left)

@@ -2,7 +2,7 @@ use mathlib.Core.Path.{_≡_}
 use native.Mathlib.Omega.{arith}
 use lib.ListN.{length}
 use borrow.Author.Needs.{needs}
-use Rattle.board.proofs.Laws.Valid.{valid-parts}
+use Rattle.board.proofs.Laws.Record.{valid-parts}
 use Rattle.responder.proofs.Laws.Responding.{walked-walking, served-is}
 use Rattle.responder.proofs.respond.serve_opened.Statement.{statement}
 use Rattle.responder.proofs.respond.serve_opened.Tie as tie
@@ -40,9 +40,7 @@ returns c =
     let at-group = c .before .before .before .before .before .before .before .before .before .before .before in
     let at-walk = at-group .before .before .before .before in
     let start = at-walk .before .before .before .before .before in
-    let kept = start .good .0 .1 .1 .0 .1 .1 .1 .1 .1 .0 in
-    let six : length (start .args .board .facts .mac) ≡ 6 = search needs in
-    served-is _ _ _ (start .pre .0) (start .pre .1) six (at-walk .before .leave .ensures) (at-walk .serve-tags .ensures) (at-group .group-of .ensures)
+    served-is _ _ _ (start .pre .0) (at-walk .before .leave .ensures) (at-walk .serve-tags .ensures) (at-group .group-of .ensures)
     (c .before .before .before .before .before .before .before .before .before .answer-group .ensures)
     (c .before .before .before .before .before .code-of .ensures)
     (c .before .before .before .before .put-u32 .ensures)

@@ -1,0 +1,66 @@
+-- The whole record: each part that a message can change replaced by another, and the record that is valid.
+use mathlib.Core.Bool.{Bool, _&&_}
+use mathlib.Core.List.{List}
+use Rattle.words.specs.All.{all}
+use Rattle.board.specs.Display.{validDisplay}
+use Rattle.board.specs.Facts.{validFacts}
+use Rattle.board.specs.Items.{validDevice, validClock, validVoltage}
+use Rattle.board.specs.declared.display.Display.{Display}
+use Rattle.board.specs.declared.items.Clock.{Clock}
+use Rattle.board.specs.declared.items.Device.{Device}
+use Rattle.board.specs.declared.items.Voltage.{Voltage}
+use Rattle.board.specs.declared.record.Board.{Board}
+
+-- ---- a record with one part replaced: all others stay
+abbrev pub withDevices : Board → List Device → Board
+withDevices b xs = record {
+  facts = b .facts;
+  line = b .line;
+  devices = xs;
+  clocks = b .clocks;
+  voltages = b .voltages;
+  temperature = b .temperature;
+  display = b .display;
+}
+
+abbrev pub withClocks : Board → List Clock → Board
+withClocks b xs = record {
+  facts = b .facts;
+  line = b .line;
+  devices = b .devices;
+  clocks = xs;
+  voltages = b .voltages;
+  temperature = b .temperature;
+  display = b .display;
+}
+
+abbrev pub withVoltages : Board → List Voltage → Board
+withVoltages b xs = record {
+  facts = b .facts;
+  line = b .line;
+  devices = b .devices;
+  clocks = b .clocks;
+  voltages = xs;
+  temperature = b .temperature;
+  display = b .display;
+}
+
+abbrev pub withDisplay : Board → Display → Board
+withDisplay b d = record {
+  facts = b .facts;
+  line = b .line;
+  devices = b .devices;
+  clocks = b .clocks;
+  voltages = b .voltages;
+  temperature = b .temperature;
+  display = d;
+}
+
+-- ---- a valid record: each part is valid, whatever the temperature and the command line's bytes
+unfoldable pub valid : Board → Bool
+valid b =
+    validFacts (b .facts)
+    && all validDevice (b .devices)
+    && all validClock (b .clocks)
+    && all validVoltage (b .voltages)
+    && validDisplay (b .display)

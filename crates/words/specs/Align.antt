@@ -1,0 +1,10 @@
+-- Alignments.
+use mathlib.Core.Bool.{Bool}
+use Prim.Native.Nat.{ℕ}
+use lib.Count.{onesIn}
+use lib.Dec.{eqb}
+
+-- an alignment, a word, has exactly one bit set
+unfoldable pub oneBit : ℕ → Bool
+unfolding onesIn
+oneBit a = eqb (onesIn 32 a) 1
