@@ -86,7 +86,8 @@ pub fn serve_tags(board: Board, msg: &mut [u8], size: usize, group: Decision) ->
             Ask::Short => return tags_served(short_at(p), operation, b),
             Ask::Group(frame, count) => {
                 let end = value + count;
-                operation = note(operation, frame, &msg[value..end]);
+                let request = &msg[value..end];
+                operation = note(operation, frame, request);
                 put_group(msg, tag.at, tag.size, group, frame);
             }
             Ask::Outside(outside, count) => {

@@ -58,8 +58,8 @@ add-end c =
           (at-tag .st .given .1) (c .before .before .before .before .ask-at .ensures) (c .before .ask .given .1) .0,
     )
 
-part-note-end : tie.Need-part-note-end Inv-loop μ-loop
-part-note-end c =
+part-request-end : tie.Need-part-request-end Inv-loop μ-loop
+part-request-end c =
     let at-tag = c .before .before .before .before .before .before .before .before in
     omega (
       arith,
@@ -81,8 +81,8 @@ add-end-2 c =
           (at-tag .st .given .1) (c .before .before .before .before .ask-at .ensures) (c .before .ask2 .given .1) .0,
     )
 
-part-request-end : tie.Need-part-request-end Inv-loop μ-loop
-part-request-end c =
+part-request-end-2 : tie.Need-part-request-end-2 Inv-loop μ-loop
+part-request-end-2 c =
     let at-tag = c .before .before .before .before .before .before .before .before in
     omega (
       arith,
@@ -339,8 +339,8 @@ serve-tags-spec =
     (tie.spec Inv-loop μ-loop
     (search needs) loop-holds (search needs) (search needs) (search needs) (search needs) (search needs) returns
     ask-at-requires add-value (search needs) (search needs) (search needs) (search needs) same-length-2 returns-2
-    (search needs) add-end (search needs) (search needs) part-note-end (search needs) put-group-requires
-    (search needs) add-end-2 (search needs) (search needs) part-request-end (search needs) (search needs)
+    (search needs) add-end (search needs) (search needs) part-request-end (search needs) put-group-requires
+    (search needs) add-end-2 (search needs) (search needs) part-request-end-2 (search needs) (search needs)
     (search needs) (search needs) (search needs) (search needs) put-pair-requires loop-less loop-again (search needs)
     put-fact-requires (search needs) mul-power-after element-copy-out-power-after (search needs) mul-d
     element-set-from-d (search needs) put-pair-requires-2 (search needs) mul-clock-after element-copy-out-clock-after

@@ -21,7 +21,8 @@ unfolding factAnswer
 mac-returns c =
     let start = c .before .before .before .before .before .before .before .before .before .before in
     let l : length (start .args .f .mac) ≡ 6 = search needs in
-    fact-put _ _ _ _ _ FactTag.Mac (c .before .before .before .before .before .before .enum-told4 .given .1) (sym (take-all 6 (start .args .f .mac) (omega (arith, l))))
+    fact-put _ _ _ _ _ FactTag.Mac (c .before .before .before .before .before .before .enum-told4 .given .1) (sym (take-all 6 (start .args .f .mac)
+    (omega (arith, l))))
     (c .before .before .put-bytes .ensures)
 
 line-requires : tie.Need-put-bytes-requires-2
@@ -34,7 +35,8 @@ line-returns c =
     let arm = c .before .before .before .before .before .before in
     let start = arm .before .before .before .before in
     fact-put _ _ _ _ _ FactTag.Line (arm .enum-told8 .given .1)
-    (line-is (start .args .f) (start .args .line .now) (c .before .before .before .before .first .ensures) (c .before .before .before .first2 .ensures)) (c .before .before .put-bytes2 .ensures)
+    (line-is (start .args .f) (start .args .line .now) (c .before .before .before .before .first .ensures)
+    (c .before .before .before .first2 .ensures)) (c .before .before .put-bytes2 .ensures)
 
 pub put-fact-spec : {M : Type 1} → statement M
 unfolding factAnswer
@@ -46,12 +48,19 @@ put-fact-spec =
     (search needs) (search needs) (search needs) (search needs) (search needs) (search needs) (search needs) (search needs) (search needs)
     line-requires (search needs) (search needs)
     -- and what it leaves
-    (search needs) (λ c. fact-put _ _ _ _ _ FactTag.Firmware (c .before .before .before .before .enum-told .given .1) refl (c .before .before .put-word .ensures))
-    (search needs) (λ c. fact-put _ _ _ _ _ FactTag.Model (c .before .before .before .before .enum-told2 .given .1) refl (c .before .before .put-word2 .ensures))
-    (search needs) (λ c. fact-put _ _ _ _ _ FactTag.Revision (c .before .before .before .before .enum-told3 .given .1) refl (c .before .before .put-word3 .ensures))
+    (search needs)
+    (λ c. fact-put _ _ _ _ _ FactTag.Firmware (c .before .before .before .before .enum-told .given .1) refl (c .before .before .put-word .ensures))
+    (search needs)
+    (λ c. fact-put _ _ _ _ _ FactTag.Model (c .before .before .before .before .enum-told2 .given .1) refl (c .before .before .put-word2 .ensures))
+    (search needs)
+    (λ c. fact-put _ _ _ _ _ FactTag.Revision (c .before .before .before .before .enum-told3 .given .1) refl (c .before .before .put-word3 .ensures))
     (search needs) mac-returns
-    (search needs) (λ c. fact-put _ _ _ _ _ FactTag.Serial (c .before .before .before .before .enum-told5 .given .1) refl (c .before .before .put-long .ensures))
-    (search needs) (λ c. fact-put _ _ _ _ _ FactTag.Arm (c .before .before .before .before .enum-told6 .given .1) refl (c .before .before .put-pair .ensures))
-    (search needs) (λ c. fact-put _ _ _ _ _ FactTag.Vc (c .before .before .before .before .enum-told7 .given .1) refl (c .before .before .put-pair2 .ensures))
+    (search needs)
+    (λ c. fact-put _ _ _ _ _ FactTag.Serial (c .before .before .before .before .enum-told5 .given .1) refl (c .before .before .put-long .ensures))
+    (search needs)
+    (λ c. fact-put _ _ _ _ _ FactTag.Arm (c .before .before .before .before .enum-told6 .given .1) refl (c .before .before .put-pair .ensures))
+    (search needs)
+    (λ c. fact-put _ _ _ _ _ FactTag.Vc (c .before .before .before .before .enum-told7 .given .1) refl (c .before .before .put-pair2 .ensures))
     (search needs) line-returns
-    (search needs) (λ c. fact-put _ _ _ _ _ FactTag.Dma (c .before .before .before .before .enum-told9 .given .1) refl (c .before .before .put-word4 .ensures)))
+    (search needs)
+    (λ c. fact-put _ _ _ _ _ FactTag.Dma (c .before .before .before .before .enum-told9 .given .1) refl (c .before .before .put-word4 .ensures)))
