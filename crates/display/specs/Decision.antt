@@ -22,7 +22,7 @@ span base size = record { base = base; size = size }
 abbrev pub nowhere : Span
 nowhere = span 0 0
 
--- whether a proposal is supported, given the record's settings: whatever they are, where it is supported in the region
+-- what may be proposed, given the record's settings: whatever they are, what is supported in the region
 unfoldable pub supportedFrom : Display → Settings → Bool
 supportedFrom d proposal = supported (d .region .size) proposal
 
@@ -52,8 +52,7 @@ bufferAfter true releases d o = placedAt d o
 bufferAfter false true d o = nowhere
 bufferAfter false false d o = d .buffer
 
--- the decision that these settings are answered, with their pitch, and that the display stands so: no operation was
--- accepted
+-- these settings are answered, with their pitch; no operation is accepted, and the display is left as it is given
 abbrev pub showing : Settings → Display → Decision
 showing s d =
     record { answered = true; accepted = false; shown = s; pitch = pitch s; placed = nowhere; display = d }

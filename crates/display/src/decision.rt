@@ -31,7 +31,7 @@ fn no_buffer() -> Span
     Span { base: 0, size: 0 }
 }
 
-// Whether a proposal is supported, given the display's settings: they do not count.
+// Whether settings may be proposed, given those of the display.
 fn is_supported_from(d: Display, proposal: Settings) -> bool
     ensures { λ r. ⌜ r ≡ supportedFrom d proposal ⌝ }
 {

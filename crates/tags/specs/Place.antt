@@ -30,12 +30,16 @@ idOf request = nthWord request 0
 abbrev pub newValue : (request : List ℕ) → ℕ
 newValue request = nthWord request 1
 
--- each answers the id and one value of the item as it left it: `after` gives that item, by what a set asks for
-abbrev pub itemAnswer :
-    {A : Type 0} → A → (ℕ → Place) → (after : ℕ → A → A) (value : A → ℕ) → (request : List ℕ) → List A → List ℕ
+-- each answers the id and one value of its item as it left it. The family gives the item of an id that is not listed,
+-- the place of an id, the item that a tag leaves, by what a set asks for, and the value that it answers
+abbrev pub itemAnswer : {A : Type 0}
+    → (none : A) (place : ℕ → Place) (after : ℕ → A → A) (value : A → ℕ)
+    → (request : List ℕ) → List A → List ℕ
 itemAnswer none place after value request xs =
     twoWords (idOf request) (value (after (newValue request) (item none xs (place (idOf request)))))
 
 -- the items that it leaves: only that of its id can change
-abbrev pub itemsAfter : {A : Type 0} → A → (ℕ → Place) → (after : ℕ → A → A) → (request : List ℕ) → List A → List A
+abbrev pub itemsAfter : {A : Type 0}
+    → (none : A) (place : ℕ → Place) (after : ℕ → A → A)
+    → (request : List ℕ) → List A → List A
 itemsAfter none place after request xs = change none (after (newValue request)) xs (place (idOf request))

@@ -22,7 +22,7 @@ use Rattle.responder.proofs.Laws.Saids.{after-same}
 use Rattle.responder.proofs.Laws.Turns.{turns-beside}
 use Rattle.responder.specs.Answers.{operation, groupBy, groupOf, turnOf, answers, after}
 use Rattle.responder.specs.Reply.{served}
-use Rattle.responder.specs.Turns.{Said, says, Turn, Turns, turns}
+use Rattle.responder.specs.Turns.{says, Turns, turns}
 
 -- ---- the group
 -- but for the display, the record is left as if the group had been left alone

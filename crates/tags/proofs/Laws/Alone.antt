@@ -5,10 +5,6 @@ use Prim.Native.Nat.{ℕ}
 use Rattle.board.specs.Record.{withDevices, withClocks, withVoltages, withDisplay}
 use Rattle.board.specs.declared.display.Display.{Display}
 use Rattle.board.specs.declared.facts.Facts.{Facts}
-use Rattle.board.specs.declared.items.Clock.{Clock}
-use Rattle.board.specs.declared.items.Device.{Device}
-use Rattle.board.specs.declared.items.Temperature.{Temperature}
-use Rattle.board.specs.declared.items.Voltage.{Voltage}
 use Rattle.board.specs.declared.record.Board.{Board}
 use Rattle.table.specs.declared.kinds.ClockTag.{ClockTag}
 use Rattle.table.specs.declared.kinds.FactTag.{FactTag}

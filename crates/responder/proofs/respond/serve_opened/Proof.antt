@@ -1,6 +1,4 @@
-use mathlib.Core.Path.{_≡_}
 use native.Mathlib.Omega.{arith}
-use lib.ListN.{length}
 use borrow.Author.Needs.{needs}
 use Rattle.board.proofs.Laws.Record.{valid-parts}
 use Rattle.responder.proofs.Laws.Responding.{walked-walking, served-is}

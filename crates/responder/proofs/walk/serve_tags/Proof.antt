@@ -68,9 +68,7 @@ part-request-end c =
     )
 
 put-group-requires : tie.Need-put-group-requires Inv-loop μ-loop
-put-group-requires c κs =
-    let at-tag = c .before .before .before .before .before .before .before .before .before .before .before in
-    serve-in _ _ _ _ _ _ _ _ (at-tag .before .before .before .before .loop .inv) (at-tag .before .before .step-at .ensures) (at-tag .st .given .1)
+put-group-requires c κs = ask-at-requires (c .before .before .before .before .before .before .before .before .before) κs
 
 add-end-2 : tie.Need-add-end-2 Inv-loop μ-loop
 add-end-2 c =
@@ -93,8 +91,7 @@ part-request-end-2 c =
 put-pair-requires : tie.Need-put-pair-requires Inv-loop μ-loop
 put-pair-requires c κs =
     let at-item = c .before .before .before .before in
-    let at-tag = at-item .before .before .before .before .before .before .before .before .before .before .before .before in
-    serve-in _ _ _ _ _ _ _ _ (at-tag .before .before .before .before .loop .inv) (at-tag .before .before .step-at .ensures) (at-tag .st .given .1)
+    ask-at-requires (at-item .before .before .before .before .before .before .before .before .before .before) κs
 
 loop-less : tie.Need-loop-less Inv-loop μ-loop
 loop-less c =
@@ -116,15 +113,7 @@ loop-again c =
 put-fact-requires : tie.Need-put-fact-requires Inv-loop μ-loop
 put-fact-requires c κs =
     let at-item = c .before .before .before .before .before .before .before .before .before .before .before in
-    let at-tag = at-item .before .before .before .before .before .before .before .before .before .before .before .before in
-    serve-in _ _ _ _ _ _ _ _ (at-tag .before .before .before .before .loop .inv) (at-tag .before .before .step-at .ensures) (at-tag .st .given .1)
-
-mul-power-after : tie.Need-mul-power-after Inv-loop μ-loop
-mul-power-after c =
-    let at-family = c .before in
-    let at-item = at-family .before .before .before .before .before in
-    let h = within-items (at-item .item-place .ensures) (at-family .outside2 .given .1) (at-family .before .before .before .place .given .1) in
-    search needs
+    ask-at-requires (at-item .before .before .before .before .before .before .before .before .before .before) (κs .0, tt)
 
 element-copy-out-power-after : tie.Need-element-copy-out-power-after Inv-loop μ-loop
 element-copy-out-power-after c =
@@ -132,31 +121,19 @@ element-copy-out-power-after c =
     within-items (at-family .before .before .before .before .before .item-place .ensures) (at-family .outside2 .given .1)
     (at-family .before .before .before .place .given .1)
 
+mul-power-after : tie.Need-mul-power-after Inv-loop μ-loop
+mul-power-after c = let h = element-copy-out-power-after c in search needs
+
 mul-d : tie.Need-mul-d Inv-loop μ-loop
-mul-d c =
-    let at-family = c .before .before .before in
-    let at-item = at-family .before .before .before .before .before in
-    let h = within-items (at-item .item-place .ensures) (at-family .outside2 .given .1) (at-family .before .before .before .place .given .1) in
-    search needs
+mul-d c = mul-power-after (c .before .before)
 
 element-set-from-d : tie.Need-element-set-from-d Inv-loop μ-loop
-element-set-from-d c =
-    let at-family = c .before .before .before in
-    within-items (at-family .before .before .before .before .before .item-place .ensures) (at-family .outside2 .given .1)
-    (at-family .before .before .before .place .given .1)
+element-set-from-d c = element-copy-out-power-after (c .before .before)
 
 put-pair-requires-2 : tie.Need-put-pair-requires-2 Inv-loop μ-loop
 put-pair-requires-2 c κs =
     let at-item = c .before .before .before .before .before .before .before .before .before .before in
-    let at-tag = at-item .before .before .before .before .before .before .before .before .before .before .before .before in
-    serve-in _ _ _ _ _ _ _ _ (at-tag .before .before .before .before .loop .inv) (at-tag .before .before .step-at .ensures) (at-tag .st .given .1)
-
-mul-clock-after : tie.Need-mul-clock-after Inv-loop μ-loop
-mul-clock-after c =
-    let at-family = c .before in
-    let at-item = at-family .before .before .before .before .before in
-    let h = within-items (at-item .item-place .ensures) (at-family .outside3 .given .1) (at-family .before .before .before .place .given .1) in
-    search needs
+    ask-at-requires (at-item .before .before .before .before .before .before .before .before .before .before) κs
 
 element-copy-out-clock-after : tie.Need-element-copy-out-clock-after Inv-loop μ-loop
 element-copy-out-clock-after c =
@@ -164,31 +141,19 @@ element-copy-out-clock-after c =
     within-items (at-family .before .before .before .before .before .item-place .ensures) (at-family .outside3 .given .1)
     (at-family .before .before .before .place .given .1)
 
+mul-clock-after : tie.Need-mul-clock-after Inv-loop μ-loop
+mul-clock-after c = let h = element-copy-out-clock-after c in search needs
+
 mul-c : tie.Need-mul-c Inv-loop μ-loop
-mul-c c =
-    let at-family = c .before .before .before in
-    let at-item = at-family .before .before .before .before .before in
-    let h = within-items (at-item .item-place .ensures) (at-family .outside3 .given .1) (at-family .before .before .before .place .given .1) in
-    search needs
+mul-c c = mul-clock-after (c .before .before)
 
 element-set-from-c : tie.Need-element-set-from-c Inv-loop μ-loop
-element-set-from-c c =
-    let at-family = c .before .before .before in
-    within-items (at-family .before .before .before .before .before .item-place .ensures) (at-family .outside3 .given .1)
-    (at-family .before .before .before .place .given .1)
+element-set-from-c c = element-copy-out-clock-after (c .before .before)
 
 put-pair-requires-3 : tie.Need-put-pair-requires-3 Inv-loop μ-loop
 put-pair-requires-3 c κs =
     let at-item = c .before .before .before .before .before .before .before .before .before .before in
-    let at-tag = at-item .before .before .before .before .before .before .before .before .before .before .before .before in
-    serve-in _ _ _ _ _ _ _ _ (at-tag .before .before .before .before .loop .inv) (at-tag .before .before .step-at .ensures) (at-tag .st .given .1)
-
-mul-voltage-after : tie.Need-mul-voltage-after Inv-loop μ-loop
-mul-voltage-after c =
-    let at-family = c .before in
-    let at-item = at-family .before .before .before .before .before in
-    let h = within-items (at-item .item-place .ensures) (at-family .outside4 .given .1) (at-family .before .before .before .place .given .1) in
-    search needs
+    ask-at-requires (at-item .before .before .before .before .before .before .before .before .before .before) κs
 
 element-copy-out-voltage-after : tie.Need-element-copy-out-voltage-after Inv-loop μ-loop
 element-copy-out-voltage-after c =
@@ -196,30 +161,24 @@ element-copy-out-voltage-after c =
     within-items (at-family .before .before .before .before .before .item-place .ensures) (at-family .outside4 .given .1)
     (at-family .before .before .before .place .given .1)
 
+mul-voltage-after : tie.Need-mul-voltage-after Inv-loop μ-loop
+mul-voltage-after c = let h = element-copy-out-voltage-after c in search needs
+
 mul-v : tie.Need-mul-v Inv-loop μ-loop
-mul-v c =
-    let at-family = c .before .before .before in
-    let at-item = at-family .before .before .before .before .before in
-    let h = within-items (at-item .item-place .ensures) (at-family .outside4 .given .1) (at-family .before .before .before .place .given .1) in
-    search needs
+mul-v c = mul-voltage-after (c .before .before)
 
 element-set-from-v : tie.Need-element-set-from-v Inv-loop μ-loop
-element-set-from-v c =
-    let at-family = c .before .before .before in
-    within-items (at-family .before .before .before .before .before .item-place .ensures) (at-family .outside4 .given .1)
-    (at-family .before .before .before .place .given .1)
+element-set-from-v c = element-copy-out-voltage-after (c .before .before)
 
 put-pair-requires-4 : tie.Need-put-pair-requires-4 Inv-loop μ-loop
 put-pair-requires-4 c κs =
     let at-item = c .before .before .before .before .before .before .before .before .before .before in
-    let at-tag = at-item .before .before .before .before .before .before .before .before .before .before .before .before in
-    serve-in _ _ _ _ _ _ _ _ (at-tag .before .before .before .before .loop .inv) (at-tag .before .before .step-at .ensures) (at-tag .st .given .1)
+    ask-at-requires (at-item .before .before .before .before .before .before .before .before .before .before) κs
 
 put-pair-requires-5 : tie.Need-put-pair-requires-5 Inv-loop μ-loop
 put-pair-requires-5 c κs =
     let at-item = c .before .before .before .before .before .before .before .before .before in
-    let at-tag = at-item .before .before .before .before .before .before .before .before .before .before .before .before in
-    serve-in _ _ _ _ _ _ _ _ (at-tag .before .before .before .before .loop .inv) (at-tag .before .before .step-at .ensures) (at-tag .st .given .1)
+    ask-at-requires (at-item .before .before .before .before .before .before .before .before .before .before) κs
 
 loop-less-2 : tie.Need-loop-less-2 Inv-loop μ-loop
 loop-less-2 c =
