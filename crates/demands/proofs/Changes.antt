@@ -17,14 +17,15 @@ use Rattle.responder.proofs.Laws.Written.{writes-length}
 use Rattle.responder.specs.Reply.{writeAll, codeOf, served, reply}
 use Rattle.responder.specs.Turns.{Said, silent, says}
 use Rattle.demands.proofs.Laws.Replied.{Replied, untouched, walked, replied, clash}
-use Rattle.demands.specs.Changes.{Outside, Unanswered, trailOf, answersOf, Changes, Lengths, Refusals}
+use Rattle.demands.specs.Changes.{NotAmong, Unanswered, Changes, SameLength, Untouched, Refusals}
+use Rattle.demands.specs.Terms.{trailOf, answersOf}
 
 -- ---- writes
-put-outside : (p : ℕ) (bs m : List ℕ) (i n : ℕ) → length bs ≡ n → Outside i p n → getD (put p bs m) i 0 ≡ getD m i 0
+put-outside : (p : ℕ) (bs m : List ℕ) (i n : ℕ) → length bs ≡ n → NotAmong i p n → getD (put p bs m) i 0 ≡ getD m i 0
 put-outside p bs m i n e (inl h) = put-before p bs m i h
 put-outside p bs m i n e (inr h) = put-after p bs m i (omega arith)
 
-answered-outside : (at size : ℕ) (answer m : List ℕ) (i : ℕ) → Outside i (at + wordPlace) 4 → Outside i (at + tagHeader) (min (length answer) size)
+answered-outside : (at size : ℕ) (answer m : List ℕ) (i : ℕ) → NotAmong i (at + wordPlace) 4 → NotAmong i (at + tagHeader) (min (length answer) size)
     → getD (answered at size answer m) i 0 ≡ getD m i 0
 unfolding answered
 answered-outside at size answer m i w v =
@@ -44,17 +45,17 @@ unfolding served
 changes b m i c u = go (replied b m)
   where
     go : Replied b m → getD (reply b m .bytes) i 0 ≡ getD m i 0
-    go (untouched o e f) = rw e
+    go (untouched o e f z) = rw e
     go (walked v g e) =
         rw e (put-outside codePlace (le 4 (codeOf (trailOf m .ending .outcome))) (writeAll (trailOf m .tags) (answersOf b m) m) i 4 refl c ∙
         writes-outside (trailOf m .tags) (answersOf b m) m i u)
 
-pub lengths : Lengths
+pub same-length : SameLength
 unfolding served
-lengths b m = go (replied b m)
+same-length b m = go (replied b m)
   where
     go : Replied b m → length (reply b m .bytes) ≡ length m
-    go (untouched o e f) = rw e
+    go (untouched o e f z) = rw e
     go (walked v g e) =
         rw e (length-put codePlace (le 4 (codeOf (trailOf m .ending .outcome))) (writeAll (trailOf m .tags) (answersOf b m) m) ∙ writes-length
         (trailOf m .tags) (answersOf b m) m)
@@ -63,8 +64,8 @@ pub refusals : Refusals
 unfolding served
 refusals b m o = go (replied b m)
   where
-    go : Replied b m → (reply b m .bytes ≡ m) × (reply b m .answer .board ≡ b)
-    go (untouched n e f) = (e, f)
+    go : Replied b m → Untouched b m
+    go (untouched n e f z) = (e, f)
     go (walked v g e) =
         let s : reply b m .answer .outcome ≡ trailOf m .ending .outcome = rw e in
         absurd (clash (trailOf m .ending .outcome) (ending-outcome m (word m 0) header) (rw s at o))

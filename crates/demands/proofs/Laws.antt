@@ -2,6 +2,9 @@ pub mod Tags
 pub mod Runs
 pub mod Lists
 pub mod Alike
+pub mod Sought
+pub mod Cuts
+pub mod Mixed
 pub mod ReadBack
 pub mod Replied
 pub mod Rewritten

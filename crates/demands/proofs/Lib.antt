@@ -1,10 +1,13 @@
 pub mod Laws
 pub mod Changes
+pub mod AnswerLengths
 pub mod Examples
 pub mod Kept
 pub mod Listing
 pub mod ListingMet
 pub mod Walked
 pub mod ReadingBack
-pub mod Longer
-pub mod LongerMet
+pub mod AnsweredWhen
+pub mod LongerValues
+pub mod ServedMet
+pub mod LongerValuesMet

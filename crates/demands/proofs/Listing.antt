@@ -1,15 +1,21 @@
--- The lister shows what the builder took.
+-- The lister shows what the builder took, and finishing is never refused.
+use mathlib.Core.Path.{sym}
 use Rattle.message.proofs.Laws.Built.{started-at}
 use Rattle.message.specs.Builder.{started}
 use Rattle.message.specs.Sizes.{header}
 use Rattle.demands.proofs.Laws.Lists.{lists}
-use Rattle.demands.proofs.Laws.Runs.{ran, whole}
+use Rattle.demands.proofs.Laws.Runs.{start-open, run-open, finish-open, ran, whole}
 use Rattle.demands.proofs.Laws.Tags.{Holds}
-use Rattle.demands.specs.Listing.{Listing, run, request}
+use Rattle.demands.specs.Listing.{run, requestBuilt, Finishing, Listing}
+
+pub finishing : Finishing
+finishing buffer adds starts =
+    finish-open (run buffer adds .bytes) (run buffer adds .cursor)
+    (run-open adds buffer (started buffer .cursor) (rw (started-at buffer starts) (start-open buffer starts)))
 
 pub listing : Listing
-listing buffer adds words starts finishes =
+listing buffer adds words starts =
     let r = ran adds buffer (started buffer .cursor) words in
     let h : Holds (run buffer adds .bytes) header (run buffer adds .taken) (run buffer adds .cursor .at) = rw (started-at buffer starts) at (r .holds) in
-    lists (request buffer adds .bytes) (run buffer adds .cursor .at) (run buffer adds .taken) (whole (run buffer adds .bytes)
-    (run buffer adds .cursor) (run buffer adds .taken) h finishes)
+    lists (requestBuilt buffer adds .bytes) (run buffer adds .cursor .at) (run buffer adds .taken) (whole (run buffer adds .bytes)
+    (run buffer adds .cursor) (run buffer adds .taken) h (finishing buffer adds starts))

@@ -1,5 +1,5 @@
--- The premises of `Listing` can be met: the request that sets 640 x 480 at depth 24, built in a buffer of other bytes, with
--- three adds among its own that are refused.
+-- The premises of `Finishing` and `Listing` can be met: a release and the settings 640 x 480 at depth 24, built in a buffer of
+-- other bytes, with three adds among its own that are refused.
 use mathlib.Core.List.{List, [], _∷_, _++_}
 use mathlib.Core.Path.{_≡_, refl}
 use Prim.Native.Nat.{ℕ}
@@ -8,8 +8,8 @@ use lib.ListN.{replicate}
 use Rattle.words.specs.Numbers.{le}
 use Rattle.message.specs.Builder.{started, startOutcome, added, addOutcome, goodCursor, tagBytes, finished, finishOutcome}
 use Rattle.message.specs.Outcomes.{done}
-use Rattle.demands.proofs.Listing.{listing}
-use Rattle.demands.specs.Listing.{Add, Words, Lists, run, request}
+use Rattle.demands.proofs.Listing.{finishing, listing}
+use Rattle.demands.specs.Listing.{Add, AreWords, Lists, run, requestBuilt}
 
 abbrev add : (id size : ℕ) → List ℕ → Add
 add id size bytes = record { id = id; size = size; request = bytes }
@@ -23,9 +23,13 @@ virtual = add 0x00048004 8 (le 4 640 ++ le 4 480)
 abbrev depth : Add
 depth = add 0x00048005 4 (le 4 24)
 
--- an id 0, a request longer than its value, a value with no room
+-- a tag without a value
+abbrev release : Add
+release = add 0x00048001 0 []
+
+-- and an id 0, a request longer than its value, a value with no room
 abbrev tried : List Add
-tried = physical ∷ add 0 4 [] ∷ virtual ∷ add 0x00048005 2 (le 4 24) ∷ depth ∷ add 0x00040001 0xFFFFFFFD [] ∷ []
+tried = physical ∷ add 0 4 [] ∷ release ∷ virtual ∷ add 0x00048005 2 (le 4 24) ∷ depth ∷ add 0x00040001 0xFFFFFFFD [] ∷ []
 
 abbrev buffer : List ℕ
 buffer = replicate 80 170
@@ -34,16 +38,15 @@ starts : started buffer .outcome ≡ done
 unfolding started startOutcome
 starts = refl
 
-taken : run buffer tried .taken ≡ physical ∷ virtual ∷ depth ∷ []
+taken : run buffer tried .taken ≡ physical ∷ release ∷ virtual ∷ depth ∷ []
 unfolding started startOutcome added addOutcome goodCursor tagBytes
 taken = refl
 
-finishes : request buffer tried .answer .outcome ≡ done
-unfolding started startOutcome added addOutcome goodCursor tagBytes finished finishOutcome
-finishes = refl
+words : AreWords tried
+words = (lit< tt, lit< tt, (lit< tt, lit< tt, (lit< tt, lit< tt, (lit< tt, lit< tt, (lit< tt, lit< tt, (lit< tt, lit< tt, (lit< tt, lit< tt, tt)))))))
 
-words : Words tried
-words = (lit< tt, lit< tt, (lit< tt, lit< tt, (lit< tt, lit< tt, (lit< tt, lit< tt, (lit< tt, lit< tt, (lit< tt, lit< tt, tt))))))
+pub finishes : requestBuilt buffer tried .answer .outcome ≡ done
+finishes = finishing buffer tried starts
 
-pub met : Lists (request buffer tried .bytes) (physical ∷ virtual ∷ depth ∷ [])
-met = rw taken at (listing buffer tried words starts finishes)
+pub lists-taken : Lists (requestBuilt buffer tried .bytes) (physical ∷ release ∷ virtual ∷ depth ∷ [])
+lists-taken = rw taken at (listing buffer tried words starts)

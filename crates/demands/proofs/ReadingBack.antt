@@ -27,11 +27,12 @@ use Rattle.responder.proofs.Laws.Saids.{SaidFits, saids-fit}
 use Rattle.responder.proofs.Laws.Turns.{Each}
 use Rattle.responder.proofs.Laws.Written.{writes-length}
 use Rattle.demands.proofs.Laws.ReadBack.{nth-at, judged-shows, judged-lacks, value-written}
+use Rattle.demands.proofs.Laws.Sought.{sought-tag}
 use Rattle.demands.proofs.Laws.Replied.{Replied, untouched, walked, replied, clash}
 use Rattle.demands.proofs.Walked.{filled, code, whole, bytes-are, size-same, follows-whole}
-use Rattle.demands.specs.Changes.{trailOf, decisionOf, answersOf}
-use Rattle.demands.specs.ReadingBack.{tagOf, occurrence, saidAt, Reads, ReadingBack}
-use Rattle.demands.specs.Walked.{tagAfter, tagsAfter, walkOf}
+use Rattle.demands.specs.ReadingBack.{occurrence, EveryTagSought, Reads, ReadingBack}
+use Rattle.demands.specs.Terms.{walkOf, tagOf, trailOf, decisionOf, answersOf, saidAt}
+use Rattle.demands.specs.Walked.{tagAfter, tagsAfter}
 
 -- ---- each answer fits
 fits-at : (ss : List Said) (i : ℕ) {answer : List ℕ} → Each SaidFits ss → getD ss i silent ≡ says answer → length answer < 2 ^ 31
@@ -39,6 +40,9 @@ fits-at [] i h e = absurd (true≢false cc)
 fits-at (silent ∷ ss) zero h e = absurd (true≢false cc)
 fits-at (says x ∷ ss) zero {answer} h e = let is : x ≡ answer = cc in rw is at (h .0)
 fits-at (s ∷ ss) (suc i) h e = fits-at ss i (h .1) e
+
+pub answer-fits : (b : Board) (m : List ℕ) (i : ℕ) {answer : List ℕ} → saidAt b m i ≡ says answer → length answer < 2 ^ 31
+answer-fits b m i e = fits-at (answersOf b m) i (saids-fit (decisionOf b m) b (trailOf m .requests)) e
 
 -- ---- what the responder left, to the reader
 module _ (b : Board) (m : List ℕ) (g : GoodSize (word m 0) (length m)) where
@@ -85,9 +89,6 @@ module _ (b : Board) (m : List ℕ) (g : GoodSize (word m 0) (length m)) where
       found-judged left opens response (tagOf m i .id) (occurrence m i) wanted (tagAfter (tagOf m i) (saidAt b m i))
       (rw walk-left (nth-at (tagOf m i .id) (walkOf m .tags) (answersOf b m) i l refl))
 
-  saids : Each SaidFits (answersOf b m)
-  saids = saids-fit (decisionOf b m) b (trailOf m .requests)
-
   value-left : (i : ℕ) → i < length (walkOf m .tags) → {answer : List ℕ} → saidAt b m i ≡ says answer → (k : ℕ) → k ≤ min (length answer) (tagOf m i .size)
       → take k (drop (tagOf m i .at + tagHeader) left) ≡ take k answer
   value-left i l e k q =
@@ -98,16 +99,16 @@ module _ (b : Board) (m : List ℕ) (g : GoodSize (word m 0) (length m)) where
   module _ (is : reply b m .bytes ≡ left) where
     pub reads-left : Reads b m
     reads-left = record {
-      answered = λ i l answer e. record {
+      answer-read = λ i l answer e. record {
         shows = λ wanted q. ap (λ (x : List ℕ). found x (tagOf m i .id) (occurrence m i) wanted) is ∙ judged-left i l wanted ∙ ap (λ (s : Said).
             judged (tagAfter (tagOf m i) s) wanted) e
-            ∙ judged-shows (tagOf m i) answer (fits-at (answersOf b m) i saids e) wanted q;
+            ∙ judged-shows (tagOf m i) answer (answer-fits b m i e) wanted q;
         bytes = λ wanted q. ap (λ (x : List ℕ). take wanted (drop (tagOf m i .at + tagHeader) x)) is ∙ value-left i l e wanted q;
         fewer = λ wanted q. ap (λ (x : List ℕ). found x (tagOf m i .id) (occurrence m i) wanted) is ∙ judged-left i l wanted ∙ ap (λ (s : Said).
             judged (tagAfter (tagOf m i) s) wanted) e
-            ∙ judged-lacks (tagOf m i) answer (fits-at (answersOf b m) i saids e) wanted q;
+            ∙ judged-lacks (tagOf m i) answer (answer-fits b m i e) wanted q;
       };
-      passed = λ i l e w wanted. ap (λ (x : List ℕ). found x (tagOf m i .id) (occurrence m i) wanted) is ∙ judged-left i l wanted ∙ ap (λ (s : Said).
+      passed-over = λ i l e w wanted. ap (λ (x : List ℕ). found x (tagOf m i .id) (occurrence m i) wanted) is ∙ judged-left i l wanted ∙ ap (λ (s : Said).
           judged (tagAfter (tagOf m i) s) wanted) e
           ∙ sym (judged-not-answered (tagOf m i) wanted w refl);
     }
@@ -116,5 +117,8 @@ pub reads : ReadingBack
 reads b m w = go (replied b m)
   where
     go : Replied b m → Reads b m
-    go (untouched o e f) = absurd (clash (reply b m .answer .outcome) w o)
+    go (untouched o e f z) = absurd (clash (reply b m .answer .outcome) w o)
     go (walked v g e) = reads-left b m g (ap (λ (r : _). r .bytes) e ∙ bytes-are b m g)
+
+pub every-tag-sought : EveryTagSought
+every-tag-sought m i l = sought-tag (walkOf m .tags) i l

@@ -20,8 +20,8 @@ use Rattle.responder.proofs.Laws.Saids.{saids-fit}
 use Rattle.responder.proofs.Laws.Written.{cut-writes, writes-before}
 use Rattle.demands.proofs.Laws.Replied.{Replied, untouched, walked, replied, clash}
 use Rattle.demands.proofs.Laws.Rewritten.{follows-written}
-use Rattle.demands.specs.Changes.{trailOf, decisionOf, answersOf}
-use Rattle.demands.specs.Walked.{tagsAfter, walkOf, Walked}
+use Rattle.demands.specs.Terms.{walkOf, trailOf, decisionOf, answersOf}
+use Rattle.demands.specs.Walked.{tagsAfter, LeavesTags, Walked}
 
 module _ (b : Board) (m : List ℕ) (g : GoodSize (word m 0) (length m)) where
   -- what is written, and with the code word
@@ -63,6 +63,6 @@ module _ (b : Board) (m : List ℕ) (g : GoodSize (word m 0) (length m)) where
 pub walked-is : Walked
 walked-is b m w = go (replied b m)
   where
-    go : Replied b m → walkOf (reply b m .bytes) ≡ record { tags = tagsAfter (walkOf m .tags) (answersOf b m); ending = walkOf m .ending }
-    go (untouched o e f) = absurd (clash (reply b m .answer .outcome) w o)
+    go : Replied b m → LeavesTags b m
+    go (untouched o e f z) = absurd (clash (reply b m .answer .outcome) w o)
     go (walked v g e) = rw (e, bytes-are b m g) (walk-whole b m g)

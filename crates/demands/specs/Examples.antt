@@ -5,34 +5,56 @@ use Prim.Native.Nat.{ℕ}
 use lib.Dec.{T, eqb}
 use Rattle.words.specs.Numbers.{wordBytes}
 use Rattle.words.specs.All.{all}
+use Rattle.message.specs.Builder.{Call}
+use Rattle.message.specs.Outcomes.{done}
 use Rattle.board.specs.Bench.{bench}
 use Rattle.board.specs.Display.{pitchOf}
+use Rattle.board.specs.declared.display.Settings.{Settings}
 use Rattle.board.specs.declared.record.Board.{Board}
 use Rattle.tags.specs.Voltage.{maxOffset, minOffset}
 use Rattle.responder.specs.Reply.{reply}
+use Rattle.responder.specs.declared.respond.Served.{Served}
 
--- a message served on the record that earlier ones left; a pitch; the offsets of a voltage's maximum and minimum
+-- a message served on the record that earlier ones left; a message that is done, with the settings that it leaves; a
+-- pitch; the offsets of a voltage's maximum and minimum
 pub data Case : Type 0 where
   serves : (earlier : List (List ℕ)) (given : List ℕ) (outcome place : ℕ) (gives : List ℕ) → Case
-  pitches : (width depth pitch : ℕ) → Case
-  offsets : (millivolts maximum minimum : ℕ) → Case
+  sets : (given gives : List ℕ) (afterwards : Settings) → Case
+  hasPitch : (width depth pitch : ℕ) → Case
+  hasOffsets : (millivolts maximum minimum : ℕ) → Case
 
-abbrev pub same : List ℕ → List ℕ → Bool
-same [] [] = true
-same [] (y ∷ ys) = false
-same (x ∷ xs) [] = false
-same (x ∷ xs) (y ∷ ys) = eqb x y && same xs ys
+abbrev pub equal : List ℕ → List ℕ → Bool
+equal [] [] = true
+equal [] (y ∷ ys) = false
+equal (x ∷ xs) [] = false
+equal (x ∷ xs) (y ∷ ys) = eqb x y && equal xs ys
+
+-- the numbers of settings, each once
+abbrev pub numbersOf : Settings → List ℕ
+numbersOf s =
+    s .physical .width ∷ s .physical .height
+    ∷ s .logical .width ∷ s .logical .height
+    ∷ s .offset .x ∷ s .offset .y
+    ∷ s .depth ∷ s .order ∷ s .alpha ∷ []
 
 abbrev pub boardAfter : Board → List (List ℕ) → Board
 boardAfter b [] = b
 boardAfter b (m ∷ ms) = boardAfter (reply b (wordBytes m) .answer .board) ms
 
+-- the reply has this outcome, this place and these words
+abbrev pub isReply : Call Served → (outcome place : ℕ) (words : List ℕ) → Bool
+isReply r outcome place words =
+    eqb (r .answer .outcome) outcome && eqb (r .answer .place) place && equal (r .bytes) (wordBytes words)
+
 unfoldable pub right : Case → Bool
 right (serves earlier given outcome place gives) =
-    let r = reply (boardAfter bench earlier) (wordBytes given) in
-    eqb (r .answer .outcome) outcome && eqb (r .answer .place) place && same (r .bytes) (wordBytes gives)
-right (pitches width depth pitch) = eqb (pitchOf width depth) pitch
-right (offsets millivolts maximum minimum) = eqb (maxOffset millivolts) maximum && eqb (minOffset millivolts) minimum
+    isReply (reply (boardAfter bench earlier) (wordBytes given)) outcome place gives
+right (sets given gives afterwards) =
+    let r = reply bench (wordBytes given) in
+    isReply r done 0 gives && equal (numbersOf (r .answer .board .display .settings)) (numbersOf afterwards)
+right (hasPitch width depth pitch) = eqb (pitchOf width depth) pitch
+right (hasOffsets millivolts maximum minimum) =
+    eqb (maxOffset millivolts) maximum && eqb (minOffset millivolts) minimum
 
 -- 640 x 480, depth 24
 abbrev pub screen : List ℕ
@@ -56,15 +78,22 @@ cases =
     -- B1: no tag
     serves [] (12 ∷ 0 ∷ 0 ∷ []) 0 0 (12 ∷ 0x80000000 ∷ 0 ∷ [])
     -- B2: the settings of a screen; B3: then its buffer
-    ∷ serves [] screen 0 0 screenSet
+    ∷ sets screen screenSet (record {
+      physical = record { width = 640; height = 480 };
+      logical = record { width = 640; height = 480 };
+      offset = record { x = 0; y = 0 };
+      depth = 24;
+      order = 1;
+      alpha = 2;
+    })
     ∷ serves (screen ∷ []) (32 ∷ 0 ∷ 0x00040001 ∷ 8 ∷ 0 ∷ 16 ∷ 0 ∷ 0 ∷ []) 0 0
     (32 ∷ 0x80000000 ∷ 0x00040001 ∷ 8 ∷ 0x80000008 ∷ 0x3C000000 ∷ 0x000E1000 ∷ 0 ∷ [])
     -- B4, B5: pitches
-    ∷ pitches 641 24 1952
-    ∷ pitches 1 8 32
+    ∷ hasPitch 641 24 1952
+    ∷ hasPitch 1 8 32
     -- B6, B7: offsets; -1 in two's complement
-    ∷ offsets 1199 0xFFFFFFFF 0
-    ∷ offsets 1226 1 2
+    ∷ hasOffsets 1199 0xFFFFFFFF 0
+    ∷ hasOffsets 1226 1 2
     -- B8: a MAC address of six bytes in a value of four
     ∷ serves [] (28 ∷ 0 ∷ 0x00010003 ∷ 4 ∷ 0 ∷ 0 ∷ 0 ∷ []) 0 0
     (28 ∷ 0x80000000 ∷ 0x00010003 ∷ 4 ∷ 0x80000006 ∷ 0x4DEB27B8 ∷ 0 ∷ [])

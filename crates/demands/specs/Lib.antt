@@ -1,7 +1,10 @@
+pub mod Terms
 pub mod Listing
 pub mod Examples
 pub mod Kept
 pub mod Changes
+pub mod AnsweredWhen
+pub mod AnswerLengths
 pub mod Walked
 pub mod ReadingBack
-pub mod Longer
+pub mod LongerValues

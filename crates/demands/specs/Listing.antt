@@ -2,13 +2,15 @@
 use mathlib.Core.Bool.{Bool, true, false}
 use mathlib.Core.List.{List, [], _∷_, _++_}
 use mathlib.Core.Path.{_≡_}
-use Prim.Native.Nat.{ℕ, _-_, _^_, _≤_, _<_}
+use Prim.Native.Nat.{ℕ, _+_, _-_, _^_, _≤_, _<_}
 use lib.Dec.{eqb}
 use lib.ListN.{length, take, drop, getD}
 use Rattle.words.specs.Put.{zeros}
 use Rattle.message.specs.Builder.{Call, started, added, finished}
 use Rattle.message.specs.Lister.{listed, unlisted}
 use Rattle.message.specs.Outcomes.{done, noSuchTag}
+use Rattle.message.specs.Sizes.{header, tagHeader}
+use Rattle.message.specs.Walk.{tagEnd}
 use Rattle.message.specs.declared.builder.Cursor.{Cursor}
 use Rattle.message.specs.declared.builder.Finished.{Finished}
 
@@ -40,41 +42,57 @@ abbrev pub run : List ℕ → List Add → Run
 run buffer adds = addAll adds buffer (started buffer .cursor)
 
 -- finishing comes last
-abbrev pub request : List ℕ → List Add → Call Finished
-request buffer adds = finished (run buffer adds .bytes) (run buffer adds .cursor)
+abbrev pub requestBuilt : List ℕ → List Add → Call Finished
+requestBuilt buffer adds = finished (run buffer adds .bytes) (run buffer adds .cursor)
 
--- id and size are words
-abbrev pub Words : List Add → Type 0
-Words [] = Unit {0}
-Words (a ∷ adds) = (a .id < 2 ^ 32) × (a .size < 2 ^ 32) × Words adds
+-- Finishing is never refused after an accepted start and any adds, each given the cursor of the call before it.
+abbrev pub Finishing : Type 0
+Finishing =
+    (buffer : List ℕ) (adds : List Add)
+    → started buffer .outcome ≡ done
+    → requestBuilt buffer adds .answer .outcome ≡ done
 
--- the lister's i-th tag of m is the add: id, value size, tag word 0, and at its value offset the request bytes, then
--- zeros to the value's size
-pub record Shows (m : List ℕ) (i : ℕ) (a : Add) : Type 0 where
+-- ---- the lister
+-- the first place behind tags that stand one behind the other from p on
+abbrev pub placeBehind : ℕ → List Add → ℕ
+placeBehind p [] = p
+placeBehind p (a ∷ adds) = placeBehind (tagEnd p (a .size)) adds
+
+-- the value offset of the add of an index: behind its tag header, at a place that the sizes before it decide
+abbrev pub valueOffset : List Add → ℕ → ℕ
+valueOffset adds i = placeBehind header (take i adds) + tagHeader
+
+-- the lister's i-th tag of m is the add: id, value size, tag word 0, and its value offset, where the request bytes stand,
+-- then zeros to the value's size
+pub record Shows (m : List ℕ) (i offset : ℕ) (a : Add) : Type 0 where
   pub row : listed m i ≡ record {
     outcome = done;
     place = 0;
     id = a .id;
     size = a .size;
     word = 0;
-    value = listed m i .value;
+    value = offset;
   }
-  pub value : take (a .size) (drop (listed m i .value) m) ≡ a .request ++ zeros (a .size - length (a .request))
+  pub value : take (a .size) (drop offset m) ≡ a .request ++ zeros (a .size - length (a .request))
 
-abbrev pub none : Add
-none = record { id = 0; size = 0; request = [] }
+abbrev pub noAdd : Add
+noAdd = record { id = 0; size = 0; request = [] }
 
 -- the lister shows exactly these adds, in order, and 11 behind the last
 pub record Lists (m : List ℕ) (adds : List Add) : Type 0 where
-  pub each : (i : ℕ) → i < length adds → Shows m i (getD adds i none)
+  pub each : (i : ℕ) → i < length adds → Shows m i (valueOffset adds i) (getD adds i noAdd)
   pub last : (i : ℕ) → length adds ≤ i → listed m i ≡ unlisted noSuchTag 0
 
--- For any buffer and any adds: where start and finish are accepted, listing the finished message gives exactly the adds
--- that were taken.
+-- ids and sizes are words
+abbrev pub AreWords : List Add → Type 0
+AreWords [] = Unit {0}
+AreWords (a ∷ adds) = (a .id < 2 ^ 32) × (a .size < 2 ^ 32) × AreWords adds
+
+-- For any buffer and any adds: where start is accepted, listing the finished message gives exactly the adds that were
+-- taken.
 abbrev pub Listing : Type 0
 Listing =
     (buffer : List ℕ) (adds : List Add)
-    → Words adds
+    → AreWords adds
     → started buffer .outcome ≡ done
-    → request buffer adds .answer .outcome ≡ done
-    → Lists (request buffer adds .bytes) (run buffer adds .taken)
+    → Lists (requestBuilt buffer adds .bytes) (run buffer adds .taken)

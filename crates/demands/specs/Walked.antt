@@ -4,15 +4,12 @@ use mathlib.Core.List.{List, [], _∷_}
 use mathlib.Core.Path.{_≡_}
 use Prim.Native.Nat.{ℕ, _+_}
 use lib.ListN.{length}
-use Rattle.words.specs.Numbers.{word}
-use Rattle.message.specs.Sizes.{header}
-use Rattle.message.specs.Walk.{Walk, walkFrom}
 use Rattle.message.specs.declared.walk.Tag.{Tag}
 use Rattle.board.specs.declared.record.Board.{Board}
 use Rattle.requests.specs.Requests.{Walks}
 use Rattle.responder.specs.Reply.{reply}
 use Rattle.responder.specs.Turns.{Said, silent, says}
-use Rattle.demands.specs.Changes.{answersOf}
+use Rattle.demands.specs.Terms.{walkOf, answersOf}
 
 -- a tag that says something has the word 0x80000000 + L; a silent one keeps its own
 abbrev pub tagAfter : Tag → Said → Tag
@@ -24,15 +21,13 @@ tagsAfter [] ss = []
 tagsAfter (t ∷ ts) [] = t ∷ ts
 tagsAfter (t ∷ ts) (s ∷ ss) = tagAfter t s ∷ tagsAfter ts ss
 
--- the walk of the message that m holds
-abbrev pub walkOf : List ℕ → Walk
-walkOf m = walkFrom m (word m 0) header
-
--- Where the responder walked the message, the walk of what it left has the tags of the request, those that say
--- something with their new word, and the same end.
-abbrev pub Walked : Type 0
-Walked =
-    (b : Board) (m : List ℕ)
-    → Walks (reply b m .answer .outcome)
-    → walkOf (reply b m .bytes)
+-- the tags of what the responder left are those of the request, those that say something with their new word, and the
+-- walk ends the same
+abbrev pub LeavesTags : Board → List ℕ → Type 0
+LeavesTags b m =
+    walkOf (reply b m .bytes)
     ≡ record { tags = tagsAfter (walkOf m .tags) (answersOf b m); ending = walkOf m .ending }
+
+-- Wherever the responder walked the message.
+abbrev pub Walked : Type 0
+Walked = (b : Board) (m : List ℕ) → Walks (reply b m .answer .outcome) → LeavesTags b m

@@ -17,9 +17,40 @@ use Rattle.table.specs.declared.kinds.Kind.{Kind}
 use Rattle.table.specs.declared.rows.Row.{Row}
 use Rattle.requests.specs.Requests.{Request, passed, short, asks, valueOf, requestBytes, requestBy, requestOf, Trail, cutBy, cut}
 use Rattle.responder.specs.Turns.{Said, silent, says}
-use Rattle.demands.specs.Longer.{SameRequest, Alike}
-use Rattle.demands.specs.ReadingBack.{noTag}
+use Rattle.demands.specs.LongerValues.{SameRequest}
+use Rattle.demands.specs.Terms.{noTag}
 use Rattle.demands.specs.Walked.{tagsAfter}
+
+-- the tags pair off in order, as many in both: ids and tag words are the same, requests too, and each value of the second is
+-- at least as long
+abbrev pub Alike : (m m′ : List ℕ) → List Tag → List Tag → Type 0
+Alike m m′ [] [] = Unit {0}
+Alike m m′ [] (t′ ∷ ts′) = ⊥
+Alike m m′ (t ∷ ts) [] = ⊥
+Alike m m′ (t ∷ ts) (t′ ∷ ts′) =
+    (t .id ≡ t′ .id)
+    × (t .word ≡ t′ .word)
+    × (t .size ≤ t′ .size)
+    × SameRequest m m′ t t′
+    × Alike m m′ ts ts′
+
+pub alike-by-index : (m m′ : List ℕ) (ts ts′ : List Tag) → map (λ t. t .id) ts ≡ map (λ t. t .id) ts′ → map (λ t. t .word) ts ≡ map (λ t. t .word) ts′
+    → ((i : ℕ) → i < length ts → SameRequest m m′ (getD ts i noTag) (getD ts′ i noTag))
+    → ((i : ℕ) → i < length ts → getD ts i noTag .size ≤ getD ts′ i noTag .size) → Alike m m′ ts ts′
+alike-by-index m m′ [] [] ids words requests longer = tt
+alike-by-index m m′ [] (t′ ∷ ts′) ids words requests longer = true≢false cc
+alike-by-index m m′ (t ∷ ts) [] ids words requests longer = true≢false cc
+alike-by-index m m′ (t ∷ ts) (t′ ∷ ts′) ids words requests longer =
+    let id : t .id ≡ t′ .id = cc in
+    let word : t .word ≡ t′ .word = cc in
+    let later-ids : map (λ (u : Tag). u .id) ts ≡ map (λ (u : Tag). u .id) ts′ = cc in
+    let later-words : map (λ (u : Tag). u .word) ts ≡ map (λ (u : Tag). u .word) ts′ = cc in (
+      id,
+      word,
+      longer 0 (omega arith),
+      requests 0 (omega arith),
+      alike-by-index m m′ ts ts′ later-ids later-words (λ i l. requests (suc i) (omega arith)) (λ i l. longer (suc i) (omega arith)),
+    )
 
 -- ---- one pair
 request-pair : (m m′ : List ℕ) (t t′ : Tag) → t .id ≡ t′ .id → t .word ≡ t′ .word → SameRequest m m′ t t′ → (requestOf m t ≡ short → ⊥)
@@ -103,11 +134,11 @@ paired-words none = refl
 paired-words (both {t} {u} {ts} {us} p ps) = ap (λ (n : ℕ). n ∷ map (λ t. t .word) ts) (p .word) ∙ ap (λ (ns : List ℕ). u .word ∷ ns) (paired-words ps)
 
 -- ---- the tags of an index
-pub record At (t t′ : Tag) : Type 0 where
+pub record PairAt (t t′ : Tag) : Type 0 where
   pub id : t .id ≡ t′ .id
   pub size : t .size ≤ t′ .size
 
-pub alike-at : (m m′ : List ℕ) (ts ts′ : List Tag) (i : ℕ) → Alike m m′ ts ts′ → At (getD ts i noTag) (getD ts′ i noTag)
+pub alike-at : (m m′ : List ℕ) (ts ts′ : List Tag) (i : ℕ) → Alike m m′ ts ts′ → PairAt (getD ts i noTag) (getD ts′ i noTag)
 alike-at m m′ [] [] i a = record { id = refl; size = omega arith }
 alike-at m m′ [] (t′ ∷ ts′) i a = absurd a
 alike-at m m′ (t ∷ ts) [] i a = absurd a

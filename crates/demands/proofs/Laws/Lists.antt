@@ -1,7 +1,7 @@
 -- What the lister gives of a message that holds adds up to its end word.
 use mathlib.Core.List.{List, [], _∷_, _++_}
 use mathlib.Core.Path.{_≡_, refl, sym, ap, _∙_}
-use Prim.Native.Nat.{ℕ, zero, suc, _-_, _≤_, _<_}
+use Prim.Native.Nat.{ℕ, zero, suc, _+_, _-_, _≤_, _<_}
 use native.Mathlib.Omega.{arith}
 use lib.ListN.{length, take, drop, getD}
 use Rattle.words.specs.Numbers.{word}
@@ -11,24 +11,25 @@ use Rattle.message.proofs.Laws.Steps.{step-end}
 use Rattle.message.proofs.Laws.Walks.{walk-tag, walk-stop}
 use Rattle.message.specs.Lister.{listed, listedOf, unlisted, nth}
 use Rattle.message.specs.Outcomes.{done, noSuchTag}
-use Rattle.message.specs.Sizes.{header}
+use Rattle.message.specs.Sizes.{header, tagHeader}
 use Rattle.message.specs.Walk.{notMet, tagEnd, step, walkFrom}
 use Rattle.message.specs.declared.lister.Listed.{Listed}
 use Rattle.message.specs.declared.walk.Step.{Step}
 use Rattle.demands.proofs.Laws.Runs.{Whole}
 use Rattle.demands.proofs.Laws.Tags.{Holds, holds-le, finds, value-is}
-use Rattle.demands.specs.Listing.{Add, none, Shows, Lists}
+use Rattle.demands.specs.Listing.{Add, noAdd, placeBehind, valueOffset, Shows, Lists}
 
--- the i-th tag from p on is the add a
-record Row (m : List ℕ) (a : Add) (r : Listed) : Type 0 where
-  pub row : r ≡ record { outcome = done; place = 0; id = a .id; size = a .size; word = 0; value = r .value }
-  pub value : take (a .size) (drop (r .value) m) ≡ a .request ++ zeros (a .size - length (a .request))
+-- what the lister gives of a tag is the add a, with its value at an offset
+record IsAdd (m : List ℕ) (offset : ℕ) (a : Add) (r : Listed) : Type 0 where
+  pub row : r ≡ record { outcome = done; place = 0; id = a .id; size = a .size; word = 0; value = offset }
+  pub value : take (a .size) (drop offset m) ≡ a .request ++ zeros (a .size - length (a .request))
 
 module _ (m : List ℕ) (size c : ℕ) (inside : c < size) (end : word m c ≡ 0) where
   stops : step m size c ≡ Step.End
   stops = sym (step-end m size c (λ e. omega arith) (sym end) refl)
 
-  rows : (adds : List Add) (p : ℕ) → Holds m p adds c → (i : ℕ) → i < length adds → Row m (getD adds i none) (nth i (walkFrom m size p))
+  rows : (adds : List Add) (p : ℕ) → Holds m p adds c → (i : ℕ) → i < length adds
+      → IsAdd m (placeBehind p (take i adds) + tagHeader) (getD adds i noAdd) (nth i (walkFrom m size p))
   rows [] p h i l = absurd (omega arith)
   rows (a ∷ adds) p h zero l =
       let q = holds-le m (tagEnd p (a .size)) adds c (h .2) in
@@ -37,23 +38,23 @@ module _ (m : List ℕ) (size c : ℕ) (inside : c < size) (end : word m c ≡ 0
       let q = holds-le m (tagEnd p (a .size)) adds c (h .2) in
       rw (walk-tag m size p (finds m p a (h .0) (h .1) size (omega arith))) (rows adds (tagEnd p (a .size)) (h .2) i (omega arith))
 
-  behind : (adds : List Add) (p : ℕ) → Holds m p adds c → (i : ℕ) → length adds ≤ i → nth i (walkFrom m size p) ≡ unlisted noSuchTag 0
+  behind-last : (adds : List Add) (p : ℕ) → Holds m p adds c → (i : ℕ) → length adds ≤ i → nth i (walkFrom m size p) ≡ unlisted noSuchTag 0
   unfolding notMet
-  behind [] p h i l = rw (h, walk-stop m size c Step.End tt stops)
-  behind (a ∷ adds) p h zero l = absurd (omega arith)
-  behind (a ∷ adds) p h (suc i) l =
+  behind-last [] p h i l = rw (h, walk-stop m size c Step.End tt stops)
+  behind-last (a ∷ adds) p h zero l = absurd (omega arith)
+  behind-last (a ∷ adds) p h (suc i) l =
       let q = holds-le m (tagEnd p (a .size)) adds c (h .2) in
-      rw (walk-tag m size p (finds m p a (h .0) (h .1) size (omega arith))) (behind adds (tagEnd p (a .size)) (h .2) i (omega arith))
+      rw (walk-tag m size p (finds m p a (h .0) (h .1) size (omega arith))) (behind-last adds (tagEnd p (a .size)) (h .2) i (omega arith))
 
 module _ (m : List ℕ) (c : ℕ) (adds : List Add) (w : Whole m c adds) where
   listed-is : (i : ℕ) → listed m i ≡ nth i (walkFrom m (word m 0) header)
   unfolding listed
   listed-is i = ap (listedOf m i) (opened-good m (w .good))
 
-  shows : (i : ℕ) → i < length adds → Shows m i (getD adds i none)
+  shows : (i : ℕ) → i < length adds → Shows m i (valueOffset adds i) (getD adds i noAdd)
   shows i l =
-      let r : Row m (getD adds i none) (listed m i) = rw (listed-is i) (rows m (word m 0) c (w .inside) (w .end) adds header (w .holds) i l) in
+      let r : IsAdd m (valueOffset adds i) (getD adds i noAdd) (listed m i) = rw (listed-is i) (rows m (word m 0) c (w .inside) (w .end) adds header (w .holds) i l) in
       record { row = r .row; value = r .value }
 
   pub lists : Lists m adds
-  lists = record { each = shows; last = λ i l. listed-is i ∙ behind m (word m 0) c (w .inside) (w .end) adds header (w .holds) i l }
+  lists = record { each = shows; last = λ i l. listed-is i ∙ behind-last m (word m 0) c (w .inside) (w .end) adds header (w .holds) i l }

@@ -22,7 +22,7 @@ use Rattle.answers.specs.Reply.{answered}
 use Rattle.responder.specs.Reply.{writeAll}
 use Rattle.responder.specs.Turns.{Said, silent, says}
 use Rattle.responder.proofs.Laws.Written.{answered-length, answered-behind, answered-value, writes-before}
-use Rattle.demands.specs.ReadingBack.{noTag}
+use Rattle.demands.specs.Terms.{noTag}
 use Rattle.demands.specs.Walked.{tagAfter, tagsAfter}
 
 -- ---- the tag of an index, by its id and occurrence
@@ -62,7 +62,7 @@ module _ (t : Tag) (answer : List ℕ) (short : length answer < 2 ^ 31) where
   length-is : answerLength (tagAfter t (says answer)) ≡ length answer
   length-is = omega arith
 
-  stored-is : min (length answer) (t .size) ≡ stored (tagAfter t (says answer))
+  pub stored-is : min (length answer) (t .size) ≡ stored (tagAfter t (says answer))
   stored-is = ap (λ (n : ℕ). min n (t .size)) (sym length-is)
 
   pub judged-shows : (wanted : ℕ) → wanted ≤ min (length answer) (t .size)

@@ -34,7 +34,7 @@ clash n (inr (inr (inl z))) = apart n runsOver z (λ e. omega arith) (λ e. omeg
 clash n (inr (inr (inr z))) = apart n shortRequest z (λ e. omega arith) (λ e. omega arith) (λ e. omega arith) (λ e. omega arith)
 
 pub data Replied (b : Board) (m : List ℕ) : Type 0 where
-  untouched : Refusal (reply b m .answer .outcome) → reply b m .bytes ≡ m → reply b m .answer .board ≡ b → Replied b m
+  untouched : Refusal (reply b m .answer .outcome) → reply b m .bytes ≡ m → reply b m .answer .board ≡ b → reply b m .answer .place ≡ 0 → Replied b m
   walked : valid b ≡ true → GoodSize (word m 0) (length m) → reply b m ≡ served b m (word m 0) → Replied b m
 
 -- what opening refuses with; and the size of what it opens
@@ -70,12 +70,12 @@ replied b m = goValid (valid b) refl
   where
     goCode : (c : Bool) (message : Message) → valid b ≡ true → opened m ≡ Opened.Good message → eqb (word m codePlace) 0 ≡ c → Replied b m
     goCode true message v o c = walked v (opened-sized m o) (rw (v, o, c, opened-size m o))
-    goCode false message v o c = untouched (rw (v, o, c) (inr (inr (inl refl)))) (rw (v, o, c)) (rw (v, o, c))
+    goCode false message v o c = untouched (rw (v, o, c) (inr (inr (inl refl)))) (rw (v, o, c)) (rw (v, o, c)) (rw (v, o, c))
 
     goOpened : (o : Opened) → valid b ≡ true → opened m ≡ o → Replied b m
-    goOpened (Opened.Refused n) v o = untouched (rw (v, o) (widen n (opened-number m o))) (rw (v, o)) (rw (v, o))
+    goOpened (Opened.Refused n) v o = untouched (rw (v, o) (widen n (opened-number m o))) (rw (v, o)) (rw (v, o)) (rw (v, o))
     goOpened (Opened.Good message) v o = goCode (eqb (word m codePlace) 0) message v o refl
 
     goValid : (v : Bool) → valid b ≡ v → Replied b m
     goValid true v = goOpened (opened m) v refl
-    goValid false v = untouched (rw v (inr (inr (inr refl)))) (rw v) (rw v)
+    goValid false v = untouched (rw v (inr (inr (inr refl)))) (rw v) (rw v) (rw v)

@@ -1,27 +1,28 @@
--- What a run of adds leaves, and what finishing makes of it.
-use mathlib.Core.Bool.{Bool, true, false}
+-- What a run of adds leaves, that it can be finished, and what finishing makes of it.
+use mathlib.Core.Bool.{Bool, true, false, cond, _&&_, and-eq-true-iff}
 use mathlib.Core.List.{List, [], _∷_, _++_}
 use mathlib.Core.Path.{_≡_, refl, sym, ap, _∙_, subst}
-use Prim.Native.Nat.{ℕ, _+_, _-_, _^_, _<_}
+use Prim.Native.Nat.{ℕ, _+_, _-_, _%_, _^_, _≤_, _<_}
 use native.Mathlib.Omega.{arith}
-use borrow.Author.Tests.{eqb-true, eqb-false, ne-eqb}
-use lib.Dec.{eqb}
+use borrow.Author.Tests.{eqb-true, eqb-false, ltb-false, eq-eqb, ne-eqb, le-leb}
+use lib.Dec.{ltb, leb, eqb}
 use lib.ListN.{length, take, drop}
 use Rattle.words.proofs.Laws.Agree.{take-earlier, part-before, number-behind, number-before}
 use Rattle.words.proofs.Laws.Put.{length-put, drop-put, take-put, read-put, number-put, put-behind}
 use Rattle.words.specs.Numbers.{le, word}
 use Rattle.words.specs.Put.{put, zeros}
-use Rattle.message.proofs.Laws.Builder.{taken}
-use Rattle.message.proofs.Laws.Built.{add-refused, add-done, accepted}
+use Rattle.message.proofs.Laws.Builder.{GoodCursor, taken, finish-taken, Closed}
+use Rattle.message.proofs.Laws.Built.{add-refused, add-done, finish-done, accepted}
 use Rattle.message.proofs.Laws.Opening.{GoodSize}
-use Rattle.message.specs.Builder.{Call, addOutcome, finished, closed, finishedSize}
-use Rattle.message.specs.Outcomes.{done}
+use Rattle.message.specs.Builder.{Call, added, room, goodCursor, startOutcome, addOutcome, startedIf, started, finished, closed, finishedSize}
+use Rattle.message.specs.Outcomes.{done, noRoom}
 use Rattle.message.specs.Sizes.{header, endWord, codePlace}
 use Rattle.message.specs.Walk.{tagEnd}
 use Rattle.message.specs.declared.builder.Built.{Built}
 use Rattle.message.specs.declared.builder.Cursor.{Cursor}
-use Rattle.demands.proofs.Laws.Tags.{Fine, bytesOf, length-tag, Holds, holds-before, holds-behind}
-use Rattle.demands.specs.Listing.{Add, Run, keptIf, addAll, Words}
+use Rattle.message.specs.declared.builder.Finished.{Finished}
+use Rattle.demands.proofs.Laws.Tags.{Fine, addBytes, length-tag, Holds, holds-before, holds-behind}
+use Rattle.demands.specs.Listing.{Add, Run, keptIf, addAll, AreWords}
 
 -- ---- a run leaves what stands before its cursor, and holds the adds that were taken from there on
 pub record Ran (m : List ℕ) (c : ℕ) (r : Run) : Type 0 where
@@ -46,7 +47,7 @@ module _ (m : List ℕ) (c : Cursor) (a : Add) (adds : List Add) where
 
   -- one that is taken stands at its cursor, and what follows comes behind it
   m₁ : List ℕ
-  m₁ = put (c .at) (bytesOf a) m
+  m₁ = put (c .at) (addBytes a) m
 
   c₁ : Cursor
   c₁ = record { at = tagEnd (c .at) (a .size) }
@@ -59,13 +60,13 @@ module _ (m : List ℕ) (c : Cursor) (a : Add) (adds : List Add) where
       let l = length-tag a f in
       let after = addAll adds m₁ c₁ in
       let b : take (c .at) (after .bytes) ≡ take (c .at) m =
-      take-earlier (c .at) (c₁ .at) (after .bytes) m₁ (omega arith) (r .before) ∙ take-put (c .at) (c .at) (bytesOf a) m (omega arith) in
-      let h : take (length (bytesOf a)) (drop (c .at) (after .bytes)) ≡ bytesOf a =
-      part-before (c₁ .at) (c .at) (length (bytesOf a)) (after .bytes) m₁ (omega arith) (r .before) ∙ read-put (c .at) (bytesOf a) m (omega arith) in
-      let g : Ran m (c .at) (keptIf true a after) = record { same = r .same ∙ length-put (c .at) (bytesOf a) m; before = b; holds = (f, h, r .holds) } in
+      take-earlier (c .at) (c₁ .at) (after .bytes) m₁ (omega arith) (r .before) ∙ take-put (c .at) (c .at) (addBytes a) m (omega arith) in
+      let h : take (length (addBytes a)) (drop (c .at) (after .bytes)) ≡ addBytes a =
+      part-before (c₁ .at) (c .at) (length (addBytes a)) (after .bytes) m₁ (omega arith) (r .before) ∙ read-put (c .at) (addBytes a) m (omega arith) in
+      let g : Ran m (c .at) (keptIf true a after) = record { same = r .same ∙ length-put (c .at) (addBytes a) m; before = b; holds = (f, h, r .holds) } in
       subst (λ (call : Call Built). Ran m (c .at) (onward a adds call)) (add-done m c (a .id) (a .size) (a .request) {j = outcome} refl z refl refl) g
 
-pub ran : (adds : List Add) (m : List ℕ) (c : Cursor) → Words adds → Ran m (c .at) (addAll adds m c)
+pub ran : (adds : List Add) (m : List ℕ) (c : Cursor) → AreWords adds → Ran m (c .at) (addAll adds m c)
 ran [] m c w = record { same = refl; before = refl; holds = refl }
 ran (a ∷ adds) m c w =
     go (eqb (outcome m c a adds) done) refl (ran adds (m₁ m c a adds) (c₁ m c a adds) (w .2)) (ran adds m c (w .2))
@@ -75,6 +76,59 @@ ran (a ∷ adds) m c w =
         → Ran m (c .at) (addAll (a ∷ adds) m c)
     go true e r r′ = ran-taken m c a adds (w .0) (w .1) (eqb-true (outcome m c a adds) done e) r
     go false e r r′ = ran-refused m c a adds (eqb-false (outcome m c a adds) done e) r′
+
+-- ---- after an accepted start a message can be finished, whatever is added
+cursor-good : (at room : ℕ) → GoodCursor at room → goodCursor at room ≡ true
+unfolding goodCursor
+cursor-good at room g =
+    and-eq-true-iff (leb header at && eqb (at % 4) 0) (leb at room) .1
+    (and-eq-true-iff (leb header at) (eqb (at % 4) 0) .1 (le-leb _ _ (g .first), eq-eqb _ _ (g .fours)), le-leb _ _ (g .within))
+
+pub start-open : (m : List ℕ) → started m .outcome ≡ done → Closed (length m) header
+unfolding started startOutcome
+start-open m e = go (ltb (room (length m)) (finishedSize header)) refl e
+  where
+    go : (b : Bool) → ltb (room (length m)) (finishedSize header) ≡ b → startedIf (eqb (cond b noRoom done) done) (cond b noRoom done) .outcome ≡ done
+        → Closed (length m) header
+    go true l q = absurd (omega arith)
+    go false l q =
+        let f : finishedSize header ≤ room (length m) = ltb-false _ _ l in
+        record { cursor = record { first = omega arith; fours = refl; within = omega arith }; fits = f }
+
+abbrev Open : Run → Type 0
+Open r = Closed (length (r .bytes)) (r .cursor .at)
+
+kept-open : (b : Bool) (a : Add) (r : Run) → Open r → Open (keptIf b a r)
+kept-open true a r h = h
+kept-open false a r h = h
+
+pub run-open : (adds : List Add) (m : List ℕ) (c : Cursor) → Closed (length m) (c .at) → Open (addAll adds m c)
+unfolding outcome m₁ c₁
+run-open [] m c h = h
+run-open (a ∷ adds) m c h =
+    go (eqb (outcome m c a adds) done) refl (run-open adds m c h) (λ k. run-open adds (m₁ m c a adds) (c₁ m c a adds) k)
+  where
+    step : {call : Call Built} → call ≡ added m c (a .id) (a .size) (a .request) → Open (addAll adds (call .bytes) (call .answer .cursor))
+        → Open (addAll (a ∷ adds) m c)
+    step {call} e r =
+        subst (λ (x : Call Built). Open (onward a adds x)) e (kept-open (eqb (call .answer .outcome) done) a (addAll adds (call .bytes)
+        (call .answer .cursor)) r)
+
+    go : (b : Bool) → eqb (outcome m c a adds) done ≡ b → Open (addAll adds m c)
+        → (Closed (length (m₁ m c a adds)) (c₁ m c a adds .at) → Open (addAll adds (m₁ m c a adds) (c₁ m c a adds))) → Open (addAll (a ∷ adds) m c)
+    go true e r k =
+        let z = eqb-true (outcome m c a adds) done e in
+        let t = taken (length m) (c .at) (a .id) (a .size) (length (a .request)) z in
+        let l = length-put (c .at) (addBytes a) m in
+        let o : Closed (length (put (c .at) (addBytes a) m)) (tagEnd (c .at) (a .size)) =
+        rw l (record { cursor = record { first = omega arith; fours = omega arith; within = omega arith }; fits = t .fits }) in
+        step (add-done m c (a .id) (a .size) (a .request) {j = outcome m c a adds} refl z refl refl) (k o)
+    go false e r k = step (add-refused m c (a .id) (a .size) (a .request) {j = outcome m c a adds} refl (eqb-false (outcome m c a adds) done e)) r
+
+pub finish-open : (m : List ℕ) (c : Cursor) → Closed (length m) (c .at) → finished m c .answer .outcome ≡ done
+finish-open m c h =
+    sym (ap (λ (x : Call Finished). x .answer .outcome)
+    (finish-done m c (finish-taken (length m) (c .at) refl refl (cursor-good (c .at) (room (length m)) (h .cursor)) refl (h .fits)) refl refl refl))
 
 -- ---- finishing at a cursor behind adds that the message holds from its header on
 pub record Whole (m : List ℕ) (c : ℕ) (adds : List Add) : Type 0 where

@@ -24,17 +24,17 @@ pub record Fine (a : Add) : Type 0 where
   pub named : a .id ≡ 0 → ⊥
   pub holds : length (a .request) ≤ a .size
 
-abbrev pub bytesOf : Add → List ℕ
-bytesOf a = tagBytes (a .id) (a .size) (a .request)
+abbrev pub addBytes : Add → List ℕ
+addBytes a = tagBytes (a .id) (a .size) (a .request)
 
-pub length-tag : (a : Add) → Fine a → length (bytesOf a) ≡ tagHeader + roundUp 4 (a .size)
+pub length-tag : (a : Add) → Fine a → length (addBytes a) ≡ tagHeader + roundUp 4 (a .size)
 unfolding tagBytes
 length-tag a f = simp (length-append, length-replicate) (omega arith)
 
 -- from p up to c the message holds these adds
 abbrev pub Holds : List ℕ → ℕ → List Add → ℕ → Type 0
 Holds m p [] c = p ≡ c
-Holds m p (a ∷ adds) c = Fine a × (take (length (bytesOf a)) (drop p m) ≡ bytesOf a) × Holds m (tagEnd p (a .size)) adds c
+Holds m p (a ∷ adds) c = Fine a × (take (length (addBytes a)) (drop p m) ≡ addBytes a) × Holds m (tagEnd p (a .size)) adds c
 
 pub holds-le : (m : List ℕ) (p : ℕ) (adds : List Add) (c : ℕ) → Holds m p adds c → p ≤ c
 holds-le m p [] c h = omega arith
@@ -46,25 +46,25 @@ holds-before m m′ p [] c e h = h
 holds-before m m′ p (a ∷ adds) c e h =
     let l = length-tag a (h .0) in
     let r = holds-le m (tagEnd p (a .size)) adds c (h .2) in
-    (h .0, sym (part-before c p (length (bytesOf a)) m m′ (omega arith) e) ∙ h .1, holds-before m m′ (tagEnd p (a .size)) adds c e (h .2))
+    (h .0, sym (part-before c p (length (addBytes a)) m m′ (omega arith) e) ∙ h .1, holds-before m m′ (tagEnd p (a .size)) adds c e (h .2))
 
 pub holds-behind : (m m′ : List ℕ) (p : ℕ) (adds : List Add) (c : ℕ) → drop p m ≡ drop p m′ → Holds m p adds c → Holds m′ p adds c
 holds-behind m m′ p [] c e h = h
 holds-behind m m′ p (a ∷ adds) c e h = (
   h .0,
-  ap (take (length (bytesOf a))) (sym e) ∙ h .1,
+  ap (take (length (addBytes a))) (sym e) ∙ h .1,
   holds-behind m m′ (tagEnd p (a .size)) adds c (drop-later p (tagEnd p (a .size)) m m′
       (omega arith) e) (h .2),
 )
 
 -- ---- a tag that stands at p
-module _ (m : List ℕ) (p : ℕ) (a : Add) (f : Fine a) (h : take (length (bytesOf a)) (drop p m) ≡ bytesOf a) where
-  four : (i : ℕ) → i + 4 ≤ tagHeader → word m (p + i) ≡ word (bytesOf a) i
-  four i l = let n = length-tag a f in number-part 4 i (length (bytesOf a)) p m (bytesOf a) (omega arith) h
+module _ (m : List ℕ) (p : ℕ) (a : Add) (f : Fine a) (h : take (length (addBytes a)) (drop p m) ≡ addBytes a) where
+  four : (i : ℕ) → i + 4 ≤ tagHeader → word m (p + i) ≡ word (addBytes a) i
+  four i l = let n = length-tag a f in number-part 4 i (length (addBytes a)) p m (addBytes a) (omega arith) h
 
   id-is : word m p ≡ a .id
   unfolding numberAt tagBytes
-  id-is = let n = length-tag a f in ap unle (part-of (length (bytesOf a)) 0 4 (drop p m) (omega arith) ∙ ap (take 4) h) ∙ unle-le 4 (a .id) (f .id-word)
+  id-is = let n = length-tag a f in ap unle (part-of (length (addBytes a)) 0 4 (drop p m) (omega arith) ∙ ap (take 4) h) ∙ unle-le 4 (a .id) (f .id-word)
 
   size-is : word m (p + sizePlace) ≡ a .size
   unfolding numberAt tagBytes
@@ -90,7 +90,7 @@ module _ (m : List ℕ) (p : ℕ) (a : Add) (f : Fine a) (h : take (length (byte
       let n = length-tag a f in
       let s : length (a .request) + (a .size - length (a .request)) ≡ a .size = omega arith in
       ap (take (a .size)) (sym (drop-drop tagHeader p m))
-      ∙ part-of (length (bytesOf a)) tagHeader (a .size) (drop p m) (omega arith)
+      ∙ part-of (length (addBytes a)) tagHeader (a .size) (drop p m) (omega arith)
       ∙ ap (λ (l : List ℕ). take (a .size) (drop tagHeader l)) h
       ∙ ap (λ (x : ℕ). take x (a .request ++ zeros (roundUp 4 (a .size) - length (a .request)))) (sym s)
       ∙ take-append-add (a .request) (zeros (roundUp 4 (a .size) - length (a .request))) (a .size - length (a .request))

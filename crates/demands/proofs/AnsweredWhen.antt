@@ -1,0 +1,186 @@
+-- Which tags are answered.
+use mathlib.Core.Bool.{Bool, true, false, cond, true≢false}
+use mathlib.Core.List.{List, [], _∷_}
+use mathlib.Core.Logic.{_⊎_, inl, inr}
+use mathlib.Core.Path.{_≡_, refl, sym, ap, _∙_}
+use Prim.Native.Nat.{ℕ, zero, suc, _≤_, _<_}
+use native.Mathlib.Omega.{arith}
+use lib.ListN.{length, getD}
+use Rattle.words.specs.Numbers.{word}
+use Rattle.message.proofs.Laws.Follows.{follows}
+use Rattle.message.specs.Outcomes.{done}
+use Rattle.message.specs.Sizes.{header}
+use Rattle.message.specs.declared.walk.Tag.{Tag}
+use Rattle.board.specs.declared.record.Board.{Board}
+use Rattle.table.specs.Table.{outsideTags, groupTags, table, rowOf}
+use Rattle.table.specs.declared.kinds.Kind.{Kind}
+use Rattle.table.specs.declared.rows.Row.{Row}
+use Rattle.tags.specs.Outside.{outsideAnswer}
+use Rattle.display.specs.Decision.{groupAnswer}
+use Rattle.display.specs.declared.decision.Decision.{Decision}
+use Rattle.requests.proofs.Laws.Endings.{ending-outcome}
+use Rattle.requests.specs.Requests.{Request, passed, short, asks, valueOf, requestBytes, requestOf, trail, Walks}
+use Rattle.responder.specs.Answers.{turnOf}
+use Rattle.responder.specs.Reply.{served, reply}
+use Rattle.responder.specs.Turns.{Said, silent, says, Turn, turns}
+use Rattle.demands.proofs.Laws.Cuts.{HasAsked, has-asked, asks-known, CutAt, before, behind, nowhere, cut-at}
+use Rattle.demands.proofs.Laws.Mixed.{answered-faultless, answered-apart, apart-answered}
+use Rattle.demands.proofs.Laws.Replied.{Replied, untouched, walked, replied, clash}
+use Rattle.demands.specs.AnsweredWhen.{Known, OfGroup, Faultless, testOf, AsksGroup, Mixes, Answerable, AnsweredWhen}
+use Rattle.demands.specs.Terms.{noTag, walkOf, tagOf, trailOf, decisionOf, saidAt, Answered}
+
+-- ---- what the tag of an index says is its turn on some state
+turn-at : {S : Type 0} (turn : S → Request → Turn S) → ((s : S) → turn s passed .said ≡ silent) → (s : S) (rs : List Request) (i : ℕ)
+    → (s′ : S) × (getD (turns turn s rs .saids) i silent ≡ turn s′ (getD rs i passed) .said)
+turn-at turn quiet s [] i = (s, sym (quiet s))
+turn-at turn quiet s (r ∷ rs) zero = (s, refl)
+turn-at turn quiet s (r ∷ rs) (suc i) = turn-at turn quiet (turn s r .state) rs i
+
+-- which turns say something: outside the group every one, in it those of a group that is answered
+abbrev Speaks : Decision → Request → Type 0
+Speaks g passed = ⊥
+Speaks g short = ⊥
+Speaks g (asks (Kind.Outside t) request) = Unit {0}
+Speaks g (asks (Kind.Group t) request) = g .answered ≡ true
+
+speaks : (g : Decision) (b : Board) (r : Request) {answer : List ℕ} → turnOf g b r .said ≡ says answer → Speaks g r
+unfolding turnOf
+speaks g b passed e = true≢false cc
+speaks g b short e = true≢false cc
+speaks g b (asks (Kind.Outside t) request) e = tt
+speaks g b (asks (Kind.Group t) request) {answer} e = go (g .answered) e
+  where
+    go : (c : Bool) → cond c (says (groupAnswer g t request)) silent ≡ says answer → c ≡ true
+    go true q = refl
+    go false q = absurd (true≢false cc)
+
+spoken : (g : Decision) (b : Board) (r : Request) → Speaks g r → (answer : List ℕ) × (turnOf g b r .said ≡ says answer)
+unfolding turnOf
+spoken g b passed s = absurd s
+spoken g b short s = absurd s
+spoken g b (asks (Kind.Outside t) request) s = (outsideAnswer t request b, refl)
+spoken g b (asks (Kind.Group t) request) s = (groupAnswer g t request, ap (λ (c : Bool). cond c (says (groupAnswer g t request)) silent) s)
+
+-- no tag has the id 0
+no-row : {k : Kind} {n : ℕ} → rowOf 0 ≡ Row.Known k n → ⊥
+unfolding rowOf table outsideTags groupTags
+no-row e = true≢false cc
+
+module _ (b : Board) (m : List ℕ) (i : ℕ) where
+  abbrev t : Tag
+  t = tagOf m i
+
+  -- what it asks, as the trail has it
+  abbrev r : Request
+  r = getD (trailOf m .requests) i passed
+
+  said-at : (b′ : Board) × (saidAt b m i ≡ turnOf (decisionOf b m) b′ r .said)
+  unfolding turnOf
+  said-at = turn-at (turnOf (decisionOf b m)) (λ x. refl) b (trailOf m .requests) i
+
+  there : CutAt m t (trailOf m) r
+  unfolding trail
+  there = cut-at m (word m 0) header (walkOf m .tags) (walkOf m .ending) (follows m (word m 0) header) i
+
+  -- ---- of a message that is walked
+  module _ (is : reply b m ≡ served b m (word m 0)) where
+    outcome-is : reply b m .answer .outcome ≡ trailOf m .ending .outcome
+    unfolding served
+    outcome-is = rw is
+
+    place-is : reply b m .answer .place ≡ trailOf m .ending .place
+    unfolding served
+    place-is = rw is
+
+    -- a tag that is answered has all that it takes
+    answerable : Speaks (decisionOf b m) r → Answerable b m t
+    answerable s = go there
+      where
+        stands : (trailOf m .ending .outcome ≡ done) ⊎ (t .at < trailOf m .ending .place) → Faultless b m ⊎ (t .at < reply b m .answer .place)
+        stands (inl d) = inl (outcome-is ∙ d)
+        stands (inr l) = inr (rw place-is l)
+
+        from : (q : Request) → requestOf m t ≡ q → r ≡ q → Speaks (decisionOf b m) q
+            → (trailOf m .ending .outcome ≡ done) ⊎ (t .at < trailOf m .ending .place) → Answerable b m t
+        from passed e f x o = absurd x
+        from short e f x o = absurd x
+        from (asks (Kind.Outside k) request) e f x o =
+            let h = has-asked m t e in
+            record {
+              known = (Kind.Outside k, h .least, h .row);
+              request = h .clear;
+              before = stands o;
+              group = λ w. let z : Row.Known (Kind.Outside k) (h .least) ≡ Row.Known (Kind.Group (w .0)) (w .1) = sym (h .row) ∙ w .2 in
+                  absurd (true≢false cc);
+            }
+        from (asks (Kind.Group k) request) e f x o =
+            let h = has-asked m t e in
+            record {
+              known = (Kind.Group k, h .least, h .row);
+              request = h .clear;
+              before = stands o;
+              group = λ w. (
+                outcome-is ∙ answered-faultless (b .display) (trailOf m .ending) (trailOf m .requests) x,
+                λ n. answered-apart (b .display) (trailOf m .ending) (trailOf m .requests) x (n .0 .0) (n .1 .0) (n .0 .1) (n .1 .1),
+              );
+            }
+
+        go : CutAt m t (trailOf m) r → Answerable b m t
+        go (before q ns o) = from (requestOf m t) refl q (rw q at s) o
+        go (behind q nd l) = absurd (rw q at s)
+        go (nowhere q z) = absurd (rw q at s)
+
+    -- and one that has is answered
+    answers : Answerable b m t → Speaks (decisionOf b m) r
+    answers a = go there
+      where
+        asked : (k : Kind) (n : ℕ) → rowOf (t .id) ≡ Row.Known k n → (request : List ℕ) → r ≡ asks k request → Speaks (decisionOf b m) (asks k request)
+        asked (Kind.Outside k) n row request e = tt
+        asked (Kind.Group k) n row request e =
+            let g = a .group (k, n, row) in
+            apart-answered (b .display) (trailOf m .ending) (trailOf m .requests) (sym outcome-is ∙ g .0) (λ x y. g .1 (x, y)) (testOf k) i (rw e refl)
+
+        late : Faultless b m ⊎ (t .at < reply b m .answer .place) → (trailOf m .ending .outcome ≡ done → ⊥) → trailOf m .ending .place ≤ t .at → ⊥
+        late (inl d) nd l = nd (sym outcome-is ∙ d)
+        late (inr x) nd l = let p = place-is in omega arith
+
+        go : CutAt m t (trailOf m) r → Speaks (decisionOf b m) r
+        go (before q ns o) =
+            let k = a .known in
+            let e = q ∙ asks-known m t (k .2) (a .request) ns in
+            rw e (asked (k .0) (k .1) (k .2) (requestBytes (k .0) (k .1) (t .size) (valueOf m t)) e)
+        go (behind q nd l) = absurd (late (a .before) nd l)
+        go (nowhere q z) = let k = a .known in absurd (no-row (rw z at (k .2)))
+
+  -- ---- of any message
+  pub when : Answered b m i → Answerable b m t
+  when a = go (replied b m)
+    where
+      go : Replied b m → Answerable b m t
+      go (untouched o e f z) = absurd (clash (reply b m .answer .outcome) (a .0) o)
+      go (walked v g e) = answerable e (speaks (decisionOf b m) (said-at .0) r (sym (said-at .1) ∙ a .1 .1))
+
+  pub only-when : Answerable b m t → Answered b m i
+  only-when a = go (replied b m)
+    where
+      early : Faultless b m ⊎ (t .at < reply b m .answer .place) → reply b m .answer .place ≡ 0 → Walks (reply b m .answer .outcome)
+      early (inl d) z = inl d
+      early (inr l) z = absurd (omega arith)
+
+      go : Replied b m → Answered b m i
+      go (untouched o e f z) = absurd (clash (reply b m .answer .outcome) (early (a .before) z) o)
+      go (walked v g e) =
+          let s = spoken (decisionOf b m) (said-at .0) r (answers e a) in
+          (rw (outcome-is e) (ending-outcome m (word m 0) header), (s .0, said-at .1 ∙ s .1))
+
+pub answered-when : AnsweredWhen
+answered-when b m i = (when b m i, only-when b m i)
+
+-- an answered tag is one of the message
+inside-by-id : (ts : List Tag) (i : ℕ) → (getD ts i noTag .id ≡ 0 → ⊥) → i < length ts
+inside-by-id [] i n = absurd (n refl)
+inside-by-id (t ∷ ts) zero n = omega arith
+inside-by-id (t ∷ ts) (suc i) n = let l = inside-by-id ts i n in omega arith
+
+pub answered-inside : (b : Board) (m : List ℕ) (i : ℕ) → Answered b m i → i < length (walkOf m .tags)
+answered-inside b m i a = let k = when b m i a .known in inside-by-id (walkOf m .tags) i (λ z. no-row (rw z at (k .2)))

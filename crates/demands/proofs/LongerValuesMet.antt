@@ -1,0 +1,88 @@
+-- The premises of `LongerValues` can be met: a MAC address with a value of 4 bytes against one of 8, a tag that is passed over,
+-- and a frame buffer operation.
+use mathlib.Core.Bool.{true≢false}
+use mathlib.Core.List.{List, [], _∷_}
+use mathlib.Core.Path.{_≡_, refl, sym, ap, _∙_}
+use Prim.Native.Nat.{ℕ, zero, suc, _≤_, _<_}
+use native.Mathlib.Omega.{arith}
+use lib.Dec.{lit≤, lit<}
+use Rattle.words.specs.Numbers.{numberAt, wordBytes}
+use Rattle.message.specs.Opening.{goodSize, opened}
+use Rattle.message.specs.Outcomes.{done}
+use Rattle.message.specs.Walk.{tagAt, overruns, step, walkFrom}
+use Rattle.message.specs.declared.reader.Reading.{Reading}
+use Rattle.message.specs.declared.walk.Tag.{Tag}
+use Rattle.board.proofs.Laws.Bench.{bench-valid}
+use Rattle.board.specs.Bench.{bench}
+use Rattle.table.specs.Table.{factKind, outsideTags, groupTags, table, rowOf}
+use Rattle.table.specs.declared.kinds.FactTag.{FactTag}
+use Rattle.table.specs.declared.kinds.FrameTag.{FrameTag}
+use Rattle.table.specs.declared.kinds.Kind.{Kind}
+use Rattle.table.specs.declared.kinds.Setting.{Setting}
+use Rattle.table.specs.declared.rows.Row.{Row}
+use Rattle.requests.specs.Requests.{valueOf, requestBytes, requestBy, requestOf, trail}
+use Rattle.responder.specs.Reply.{served, reply}
+use Rattle.demands.proofs.LongerValues.{longer-values}
+use Rattle.demands.proofs.ServedMet.{tag, macBytes, mixture, mixture-done, mac-said, mixture-read, mac-answered}
+use Rattle.demands.specs.LongerValues.{SameRequest, ShownAlike, ServedAlike}
+use Rattle.demands.specs.ReadingBack.{readingOf}
+use Rattle.demands.specs.Terms.{tagOf}
+
+-- the tags of `mixture` in longer values
+abbrev longer : List ℕ
+longer = wordBytes (88 ∷ 0 ∷ 0x00010003 ∷ 8 ∷ 0 ∷ 0 ∷ 0 ∷ 0x00099999 ∷ 8 ∷ 0 ∷ 9 ∷ 9 ∷ 0x00048005 ∷ 8 ∷ 0 ∷ 16 ∷ 5 ∷ 0x00040005 ∷ 4 ∷ 0 ∷ 0 ∷ 0 ∷ [])
+
+longer-done : reply bench longer .answer .outcome ≡ done
+unfolding reply served opened goodSize numberAt trail walkFrom step overruns tagAt requestOf requestBy requestBytes rowOf table outsideTags groupTags
+longer-done = rw bench-valid
+
+-- a tag of a known row, and one of an unknown id
+known-row : (m m′ : List ℕ) (t t′ : Tag) (k : Kind) (n : ℕ) → rowOf (t .id) ≡ Row.Known k n
+    → requestBytes k n (t .size) (valueOf m t) ≡ requestBytes k n (t′ .size) (valueOf m′ t′) → SameRequest m m′ t t′
+known-row m m′ t t′ k n r e k′ n′ r′ w =
+    let q : Row.Known k n ≡ Row.Known k′ n′ = sym r ∙ r′ in
+    let ek : k ≡ k′ = cc in
+    let en : n ≡ n′ = cc in
+    rw (← ek, ← en) e
+
+unknown-row : (m m′ : List ℕ) (t t′ : Tag) → rowOf (t .id) ≡ Row.Unknown → SameRequest m m′ t t′
+unknown-row m m′ t t′ r k n r′ w =
+    let q : Row.Unknown ≡ Row.Known k n = sym r ∙ r′ in
+    absurd (true≢false cc)
+
+requests : (i : ℕ) → i < 4 → SameRequest mixture longer (tagOf mixture i) (tagOf longer i)
+unfolding numberAt walkFrom step overruns tagAt rowOf table outsideTags groupTags requestBytes
+requests zero l = known-row mixture longer (tag 8 0x00010003 4) (tag 8 0x00010003 8) (factKind FactTag.Mac) 0 refl refl
+requests (suc zero) l = unknown-row mixture longer (tag 24 0x00099999 4) (tag 28 0x00099999 8) refl
+requests (suc (suc zero)) l =
+    known-row mixture longer (tag 40 0x00048005 4) (tag 48 0x00048005 8) (Kind.Group (FrameTag.Set Setting.Depth)) 4 refl refl
+requests (suc (suc (suc zero))) l =
+    known-row mixture longer (tag 56 0x00040005 4) (tag 68 0x00040005 4) (Kind.Group (FrameTag.Get Setting.Depth)) 0 refl refl
+requests (suc (suc (suc (suc i)))) l = absurd (omega arith)
+
+values : (i : ℕ) → i < 4 → tagOf mixture i .size ≤ tagOf longer i .size
+unfolding numberAt walkFrom step overruns tagAt
+values zero l = lit≤ tt
+values (suc zero) l = lit≤ tt
+values (suc (suc zero)) l = lit≤ tt
+values (suc (suc (suc zero))) l = lit≤ tt
+values (suc (suc (suc (suc i)))) l = absurd (omega arith)
+
+pub longer-alike : ServedAlike bench mixture longer
+unfolding numberAt walkFrom step overruns tagAt
+longer-alike =
+    longer-values bench mixture longer (record {
+      faultless = mixture-done;
+      faultless′ = longer-done;
+      ids = refl;
+      words = refl;
+      requests = requests;
+      longer = values;
+    })
+
+-- the reader, asked for the four first bytes of the MAC address, shows the same of both
+pub mac-alike : ShownAlike bench mixture longer (readingOf bench mixture 0x00010003 0 4) (readingOf bench longer 0x00010003 0 4)
+unfolding numberAt walkFrom step overruns tagAt
+mac-alike =
+    let reading = mixture-read .answer-read 0 (lit< tt) macBytes mac-said .shows 4 (lit≤ tt) in
+    longer-alike .read 0x00010003 0 4 .shown mac-answered (ap (λ (r : Reading). r .outcome) reading)

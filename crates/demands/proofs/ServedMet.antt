@@ -1,0 +1,208 @@
+-- The premises of the statements on one served message can be met: a message with a MAC address in a value of 4 bytes, an
+-- unknown tag, and a depth that is set and asked; one whose operation is refused, with a release; one that mixes a test with a set; and
+-- messages that are refused.
+use mathlib.Core.Bool.{Bool, true, false, true≢false}
+use mathlib.Core.List.{List, [], _∷_}
+use mathlib.Core.Logic.{inl, inr}
+use mathlib.Core.Path.{_≡_, refl, ap}
+use Prim.Native.Nat.{ℕ, zero, suc}
+use lib.Count.{onesIn}
+use lib.Dec.{lit≤, lit<}
+use lib.ListN.{length, getD, take}
+use Rattle.words.specs.Align.{oneBit}
+use Rattle.words.specs.Numbers.{numberAt, nthWord, wordBytes}
+use Rattle.message.specs.Opening.{goodSize, opened}
+use Rattle.message.specs.Outcomes.{done, tooFewLent, badSize, notRequest, invalidBoard}
+use Rattle.message.specs.Walk.{tagAt, overruns, step, walkFrom}
+use Rattle.message.specs.declared.walk.Tag.{Tag}
+use Rattle.board.proofs.Laws.Bench.{bench-valid}
+use Rattle.board.proofs.Laws.Record.{display-valid}
+use Rattle.board.specs.Bench.{bench}
+use Rattle.board.specs.Display.{pitch, need, sides, depths, offsets, possible, supported, validBuffer, validDisplay}
+use Rattle.board.specs.Facts.{validFacts}
+use Rattle.board.specs.Items.{validState, validDevice}
+use Rattle.board.specs.Record.{withDevices, withDisplay, valid}
+use Rattle.board.specs.declared.record.Board.{Board}
+use Rattle.table.specs.Table.{factKind, outsideTags, groupTags, table, rowOf}
+use Rattle.table.specs.declared.kinds.FactTag.{FactTag}
+use Rattle.table.specs.declared.kinds.FrameTag.{FrameTag}
+use Rattle.table.specs.declared.kinds.Kind.{Kind}
+use Rattle.table.specs.declared.kinds.Setting.{Setting}
+use Rattle.tags.specs.Fact.{factAnswer}
+use Rattle.tags.specs.Outside.{outsideAnswer, outsideAfter}
+use Rattle.display.specs.Decision.{supportedFrom, placedAt, allocatable, fitsBuffer, accepted, decided, groupAnswer}
+use Rattle.display.specs.Operation.{withSetting, noted}
+use Rattle.requests.specs.Requests.{passed, asks, requestBytes, requestBy, requestOf, trail}
+use Rattle.responder.specs.Answers.{groupOf, turnOf}
+use Rattle.responder.specs.Reply.{served, reply}
+use Rattle.responder.specs.Turns.{Said, silent, says}
+use Rattle.demands.proofs.AnswerLengths.{answer-lengths}
+use Rattle.demands.proofs.AnsweredWhen.{answered-when}
+use Rattle.demands.proofs.Changes.{changes, same-length, refusals}
+use Rattle.demands.proofs.Kept.{kept}
+use Rattle.demands.proofs.ReadingBack.{every-tag-sought, reads}
+use Rattle.demands.proofs.Walked.{walked-is}
+use Rattle.demands.specs.AnswerLengths.{HasArrays}
+use Rattle.demands.specs.AnsweredWhen.{AsksGroup, Mixes}
+use Rattle.demands.specs.Changes.{Untouched}
+use Rattle.demands.specs.ReadingBack.{occurrence, sought, Reads}
+use Rattle.demands.specs.Terms.{tagOf, trailOf, answersOf, saidAt, Answered}
+use Rattle.demands.specs.Walked.{LeavesTags}
+
+abbrev pub tag : (at id size : ℕ) → Tag
+tag at id size = record { at = at; id = id; size = size; word = 0 }
+
+-- ---- MAC address, an unknown id, set depth 16, get depth
+abbrev pub mixture : List ℕ
+mixture = wordBytes (76 ∷ 0 ∷ 0x00010003 ∷ 4 ∷ 0 ∷ 0 ∷ 0x00099999 ∷ 4 ∷ 0 ∷ 7 ∷ 0x00048005 ∷ 4 ∷ 0 ∷ 16 ∷ 0x00040005 ∷ 4 ∷ 0 ∷ 0 ∷ 0 ∷ [])
+
+pub mixture-done : reply bench mixture .answer .outcome ≡ done
+unfolding reply served opened goodSize numberAt trail walkFrom step overruns tagAt requestOf requestBy requestBytes rowOf table outsideTags groupTags
+mixture-done = rw bench-valid
+
+-- the MAC address, the set and the get are answered, and the unknown tag is silent
+abbrev pub macBytes : List ℕ
+macBytes = 0xB8 ∷ 0x27 ∷ 0xEB ∷ 0x4D ∷ 0x91 ∷ 0xF6 ∷ []
+
+mixture-answers : answersOf bench mixture
+    ≡ says macBytes ∷ silent ∷ says (16 ∷ 0 ∷ 0 ∷ 0 ∷ []) ∷ says (16 ∷ 0 ∷ 0 ∷ 0 ∷ []) ∷ []
+unfolding bench numberAt trail walkFrom step overruns tagAt requestOf requestBy requestBytes rowOf table outsideTags groupTags groupOf decided accepted allocatable fitsBuffer placedAt oneBit onesIn supportedFrom nthWord noted withSetting turnOf outsideAnswer outsideAfter factAnswer groupAnswer supported possible sides depths offsets pitch need
+mixture-answers = refl
+
+pub mac-said : saidAt bench mixture 0 ≡ says macBytes
+mac-said = ap (λ (ss : List Said). getD ss 0 silent) mixture-answers
+
+mixture-trail : trailOf mixture .tags ≡ tag 8 0x00010003 4 ∷ tag 24 0x00099999 4 ∷ tag 40 0x00048005 4 ∷ tag 56 0x00040005 4 ∷ []
+unfolding numberAt trail walkFrom step overruns tagAt requestOf requestBy requestBytes rowOf table outsideTags groupTags
+mixture-trail = refl
+
+-- `Kept`: the record that it leaves is valid
+pub mixture-kept : valid (reply bench mixture .answer .board) ≡ true
+mixture-kept = kept bench mixture bench-valid
+
+-- `SameLength`: its 76 bytes
+pub mixture-length : length (reply bench mixture .bytes) ≡ 76
+mixture-length = same-length bench mixture
+
+-- `Changes`: the value of the unknown tag, at 36
+pub mixture-value : getD (reply bench mixture .bytes) 36 0 ≡ 7
+mixture-value =
+    changes bench mixture 36 (inr (lit≤ tt))
+    (rw (mixture-trail, mixture-answers) (inr (lit≤ tt), inr (lit≤ tt), (inl (lit< tt), inl (lit< tt), (inl (lit< tt), inl (lit< tt), tt))))
+
+-- `Walked`, `EveryTagSought` and `ReadingBack`
+pub mixture-tags : LeavesTags bench mixture
+mixture-tags = walked-is bench mixture (inl mixture-done)
+
+pub mixture-sought : sought mixture (tagOf mixture 3 .id) (occurrence mixture 3) ≡ 3
+unfolding numberAt walkFrom step overruns tagAt
+mixture-sought = every-tag-sought mixture 3 (lit< tt)
+
+pub mixture-read : Reads bench mixture
+mixture-read = reads bench mixture (inl mixture-done)
+
+-- `AnswerLengths`: the arrays of the bench record
+pub bench-arrays : HasArrays bench
+unfolding bench
+bench-arrays = record { mac = refl; line = refl }
+
+-- `AnsweredWhen`: the MAC address is answered, by what the rule asks; the unknown tag is not
+pub mac-answered : Answered bench mixture 0
+unfolding numberAt walkFrom step overruns tagAt rowOf table outsideTags groupTags
+mac-answered =
+    answered-when bench mixture 0 .1 (record {
+      known = (factKind FactTag.Mac, 0, refl);
+      request = lit< tt;
+      before = inl mixture-done;
+      group = λ w. absurd (true≢false cc);
+    })
+
+pub unknown-silent : Answered bench mixture 1 → ⊥
+unfolding numberAt walkFrom step overruns tagAt rowOf table outsideTags groupTags
+unknown-silent a = let k = answered-when bench mixture 1 .0 a .known in let e = k .2 in true≢false cc
+
+-- ---- release, set depth 7, on a record with a buffer: the operation is refused
+abbrev pub standingBuffer : Board
+standingBuffer = withDisplay bench (record {
+  region = bench .display .region;
+  settings = bench .display .settings;
+  buffer = record { base = 0x3C000000; size = 1536000 };
+})
+
+buffer-valid : valid standingBuffer ≡ true
+unfolding bench validDisplay validBuffer supported possible sides depths offsets pitch need
+buffer-valid = display-valid bench (standingBuffer .display) bench-valid refl
+
+abbrev pub releaseRefused : List ℕ
+releaseRefused = wordBytes (40 ∷ 0 ∷ 0x00048001 ∷ 0 ∷ 0 ∷ 0x00048005 ∷ 4 ∷ 0 ∷ 7 ∷ 0 ∷ [])
+
+refused-done : reply standingBuffer releaseRefused .answer .outcome ≡ done
+unfolding reply served opened goodSize numberAt trail walkFrom step overruns tagAt requestOf requestBy requestBytes rowOf table outsideTags groupTags
+refused-done = rw buffer-valid
+
+refused-asks : trailOf releaseRefused .requests
+    ≡ asks (Kind.Group FrameTag.Release) [] ∷ asks (Kind.Group (FrameTag.Set Setting.Depth)) (7 ∷ 0 ∷ 0 ∷ 0 ∷ []) ∷ []
+unfolding numberAt trail walkFrom step overruns tagAt requestOf requestBy requestBytes rowOf table outsideTags groupTags
+refused-asks = refl
+
+refused-apart : Mixes releaseRefused → ⊥
+refused-apart x = go (x .0 .0) (rw refused-asks at (x .0 .1))
+  where
+    go : (i : ℕ) → AsksGroup true (getD (asks (Kind.Group FrameTag.Release) [] ∷ asks (Kind.Group (FrameTag.Set Setting.Depth)) (7 ∷ 0 ∷ 0 ∷ 0 ∷ []) ∷ []) i passed)
+        → ⊥
+    go zero e = true≢false cc
+    go (suc zero) e = true≢false cc
+    go (suc (suc i)) e = e
+
+-- the release is answered, with no bytes, and the record stays as it was
+pub release-answered : Answered standingBuffer releaseRefused 0
+unfolding numberAt walkFrom step overruns tagAt rowOf table outsideTags groupTags
+release-answered =
+    answered-when standingBuffer releaseRefused 0 .1 (record {
+      known = (Kind.Group FrameTag.Release, 0, refl);
+      request = lit< tt;
+      before = inl refused-done;
+      group = λ w. (refused-done, refused-apart);
+    })
+
+pub release-left : (saidAt standingBuffer releaseRefused 0 ≡ says []) × (reply standingBuffer releaseRefused .answer .board ≡ standingBuffer)
+unfolding reply served opened goodSize bench numberAt trail walkFrom step overruns tagAt requestOf requestBy requestBytes rowOf table outsideTags groupTags groupOf decided accepted allocatable fitsBuffer placedAt oneBit onesIn supportedFrom nthWord noted withSetting turnOf groupAnswer supported possible sides depths offsets pitch need
+release-left = (refl, rw buffer-valid)
+
+-- ---- test depth, set depth: mixed, and neither is answered
+abbrev pub testBesideSet : List ℕ
+testBesideSet = wordBytes (44 ∷ 0 ∷ 0x00044005 ∷ 4 ∷ 0 ∷ 16 ∷ 0x00048005 ∷ 4 ∷ 0 ∷ 16 ∷ 0 ∷ [])
+
+pub mixed-silent : Answered bench testBesideSet 1 → ⊥
+unfolding numberAt trail walkFrom step overruns tagAt requestOf requestBy requestBytes rowOf table outsideTags groupTags
+mixed-silent a =
+    answered-when bench testBesideSet 1 .0 a .group (FrameTag.Set Setting.Depth, 4, refl) .1 ((0, refl), (1, refl))
+
+-- ---- `Refusals`: eleven bytes; a size of 14; a code word of 1; a record with an absent device that is on
+abbrev eleven : List ℕ
+eleven = take 11 (wordBytes (12 ∷ 0 ∷ 0 ∷ []))
+
+pub eleven-untouched : Untouched bench eleven
+unfolding reply opened
+eleven-untouched = refusals bench eleven (inl (rw bench-valid))
+
+abbrev fourteen : List ℕ
+fourteen = wordBytes (14 ∷ 0 ∷ 0 ∷ 0 ∷ [])
+
+pub fourteen-untouched : Untouched bench fourteen
+unfolding reply opened goodSize numberAt
+fourteen-untouched = refusals bench fourteen (inr (inl (rw bench-valid)))
+
+abbrev codeOne : List ℕ
+codeOne = wordBytes (12 ∷ 1 ∷ 0 ∷ [])
+
+pub coded-untouched : Untouched bench codeOne
+unfolding reply opened goodSize numberAt
+coded-untouched = refusals bench codeOne (inr (inr (inl (rw bench-valid))))
+
+abbrev spoiled : Board
+spoiled = withDevices bench (record { state = record { exists = false; on = true }; timing = 0 } ∷ [])
+
+pub spoiled-untouched : Untouched spoiled mixture
+unfolding reply bench valid validFacts validDevice validState
+spoiled-untouched = refusals spoiled mixture (inr (inr (inr refl)))
