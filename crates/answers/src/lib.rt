@@ -1,3 +1,3 @@
 // Answers of tags: their first bytes stored into a value, and the whole written into its message.
 pub mod answer;
-pub mod reply;
+pub mod writing;

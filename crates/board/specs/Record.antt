@@ -1,7 +1,7 @@
 -- The whole record: each part that a message can change replaced by another, and the record that is valid.
 use mathlib.Core.Bool.{Bool, _&&_}
 use mathlib.Core.List.{List}
-use Rattle.words.specs.All.{all}
+use Rattle.words.specs.Every.{every}
 use Rattle.board.specs.Display.{validDisplay}
 use Rattle.board.specs.Facts.{validFacts}
 use Rattle.board.specs.Items.{validDevice, validClock, validVoltage}
@@ -60,7 +60,7 @@ withDisplay b d = record {
 unfoldable pub valid : Board → Bool
 valid b =
     validFacts (b .facts)
-    && all validDevice (b .devices)
-    && all validClock (b .clocks)
-    && all validVoltage (b .voltages)
+    && every validDevice (b .devices)
+    && every validClock (b .clocks)
+    && every validVoltage (b .voltages)
     && validDisplay (b .display)

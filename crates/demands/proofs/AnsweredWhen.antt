@@ -19,11 +19,11 @@ use Rattle.tags.specs.Outside.{outsideAnswer}
 use Rattle.display.specs.Decision.{groupAnswer}
 use Rattle.display.specs.declared.decision.Decision.{Decision}
 use Rattle.requests.proofs.Laws.Endings.{ending-outcome}
-use Rattle.requests.specs.Requests.{Request, passed, short, asks, valueOf, requestBytes, requestOf, trail, Walks}
+use Rattle.requests.specs.Requests.{Request, passed, short, asks, valueOf, requestBytes, requestOf, trail, WalkOutcome}
 use Rattle.responder.specs.Answers.{turnOf}
 use Rattle.responder.specs.Reply.{served, reply}
 use Rattle.responder.specs.Turns.{Said, silent, says, Turn, turns}
-use Rattle.demands.proofs.Laws.Cuts.{HasAsked, has-asked, asks-known, CutAt, before, behind, nowhere, cut-at}
+use Rattle.demands.proofs.Laws.Cuts.{HasAsked, has-asked, asks-known, CutAt, cut-before, cut-behind, cut-none, cut-at}
 use Rattle.demands.proofs.Laws.Mixed.{answered-faultless, answered-apart, apart-answered}
 use Rattle.demands.proofs.Laws.Replied.{Replied, untouched, walked, replied, clash}
 use Rattle.demands.specs.AnsweredWhen.{Known, OfGroup, Faultless, testOf, AsksGroup, Mixes, Answerable, AnsweredWhen}
@@ -126,9 +126,9 @@ module _ (b : Board) (m : List ℕ) (i : ℕ) where
             }
 
         go : CutAt m t (trailOf m) r → Answerable b m t
-        go (before q ns o) = from (requestOf m t) refl q (rw q at s) o
-        go (behind q nd l) = absurd (rw q at s)
-        go (nowhere q z) = absurd (rw q at s)
+        go (cut-before q ns o) = from (requestOf m t) refl q (rw q at s) o
+        go (cut-behind q nd l) = absurd (rw q at s)
+        go (cut-none q z) = absurd (rw q at s)
 
     -- and one that has is answered
     answers : Answerable b m t → Speaks (decisionOf b m) r
@@ -145,25 +145,25 @@ module _ (b : Board) (m : List ℕ) (i : ℕ) where
         late (inr x) nd l = let p = place-is in omega arith
 
         go : CutAt m t (trailOf m) r → Speaks (decisionOf b m) r
-        go (before q ns o) =
+        go (cut-before q ns o) =
             let k = a .known in
             let e = q ∙ asks-known m t (k .2) (a .request) ns in
             rw e (asked (k .0) (k .1) (k .2) (requestBytes (k .0) (k .1) (t .size) (valueOf m t)) e)
-        go (behind q nd l) = absurd (late (a .before) nd l)
-        go (nowhere q z) = let k = a .known in absurd (no-row (rw z at (k .2)))
+        go (cut-behind q nd l) = absurd (late (a .before) nd l)
+        go (cut-none q z) = let k = a .known in absurd (no-row (rw z at (k .2)))
 
   -- ---- of any message
-  pub when : Answered b m i → Answerable b m t
-  when a = go (replied b m)
+  pub answered-has : Answered b m i → Answerable b m t
+  answered-has a = go (replied b m)
     where
       go : Replied b m → Answerable b m t
       go (untouched o e f z) = absurd (clash (reply b m .answer .outcome) (a .0) o)
       go (walked v g e) = answerable e (speaks (decisionOf b m) (said-at .0) r (sym (said-at .1) ∙ a .1 .1))
 
-  pub only-when : Answerable b m t → Answered b m i
-  only-when a = go (replied b m)
+  pub has-answered : Answerable b m t → Answered b m i
+  has-answered a = go (replied b m)
     where
-      early : Faultless b m ⊎ (t .at < reply b m .answer .place) → reply b m .answer .place ≡ 0 → Walks (reply b m .answer .outcome)
+      early : Faultless b m ⊎ (t .at < reply b m .answer .place) → reply b m .answer .place ≡ 0 → WalkOutcome (reply b m .answer .outcome)
       early (inl d) z = inl d
       early (inr l) z = absurd (omega arith)
 
@@ -174,7 +174,7 @@ module _ (b : Board) (m : List ℕ) (i : ℕ) where
           (rw (outcome-is e) (ending-outcome m (word m 0) header), (s .0, said-at .1 ∙ s .1))
 
 pub answered-when : AnsweredWhen
-answered-when b m i = (when b m i, only-when b m i)
+answered-when b m i = (answered-has b m i, has-answered b m i)
 
 -- an answered tag is one of the message
 inside-by-id : (ts : List Tag) (i : ℕ) → (getD ts i noTag .id ≡ 0 → ⊥) → i < length ts
@@ -183,4 +183,4 @@ inside-by-id (t ∷ ts) zero n = omega arith
 inside-by-id (t ∷ ts) (suc i) n = let l = inside-by-id ts i n in omega arith
 
 pub answered-inside : (b : Board) (m : List ℕ) (i : ℕ) → Answered b m i → i < length (walkOf m .tags)
-answered-inside b m i a = let k = when b m i a .known in inside-by-id (walkOf m .tags) i (λ z. no-row (rw z at (k .2)))
+answered-inside b m i a = let k = answered-has b m i a .known in inside-by-id (walkOf m .tags) i (λ z. no-row (rw z at (k .2)))

@@ -11,7 +11,7 @@ use Rattle.words.specs.Put.{put}
 use Rattle.message.specs.Sizes.{header, tagHeader, codePlace}
 use Rattle.message.specs.Walk.{wordPlace}
 use Rattle.message.specs.declared.walk.Tag.{Tag}
-use Rattle.answers.specs.Reply.{answered}
+use Rattle.answers.specs.Writing.{answered}
 use Rattle.requests.proofs.Laws.Endings.{ending-outcome}
 use Rattle.responder.proofs.Laws.Written.{writes-length}
 use Rattle.responder.specs.Reply.{writeAll, codeOf, served, reply}

@@ -10,7 +10,7 @@ use Rattle.board.specs.Facts.{validFacts}
 use Rattle.board.specs.Items.{validState, validDevice, validClock, validVoltage}
 use Rattle.board.specs.Record.{valid}
 use Rattle.table.specs.Table.{outsideTags, groupTags, table, rowOf}
-use Rattle.answers.specs.Reply.{answered}
+use Rattle.answers.specs.Writing.{answered}
 use Rattle.tags.specs.Clock.{settled, clockAfter, clockValue}
 use Rattle.tags.specs.Fact.{factAnswer}
 use Rattle.tags.specs.Outside.{outsideAnswer, outsideAfter}

@@ -11,25 +11,25 @@ use Rattle.message.specs.Outcomes.{done}
 use Rattle.demands.proofs.Listing.{finishing, listing}
 use Rattle.demands.specs.Listing.{Add, AreWords, Lists, run, requestBuilt}
 
-abbrev add : (id size : ℕ) → List ℕ → Add
-add id size bytes = record { id = id; size = size; request = bytes }
+abbrev addOf : (id size : ℕ) → List ℕ → Add
+addOf id size bytes = record { id = id; size = size; request = bytes }
 
 abbrev physical : Add
-physical = add 0x00048003 8 (le 4 640 ++ le 4 480)
+physical = addOf 0x00048003 8 (le 4 640 ++ le 4 480)
 
 abbrev virtual : Add
-virtual = add 0x00048004 8 (le 4 640 ++ le 4 480)
+virtual = addOf 0x00048004 8 (le 4 640 ++ le 4 480)
 
 abbrev depth : Add
-depth = add 0x00048005 4 (le 4 24)
+depth = addOf 0x00048005 4 (le 4 24)
 
 -- a tag without a value
 abbrev release : Add
-release = add 0x00048001 0 []
+release = addOf 0x00048001 0 []
 
 -- and an id 0, a request longer than its value, a value with no room
 abbrev tried : List Add
-tried = physical ∷ add 0 4 [] ∷ release ∷ virtual ∷ add 0x00048005 2 (le 4 24) ∷ depth ∷ add 0x00040001 0xFFFFFFFD [] ∷ []
+tried = physical ∷ addOf 0 4 [] ∷ release ∷ virtual ∷ addOf 0x00048005 2 (le 4 24) ∷ depth ∷ addOf 0x00040001 0xFFFFFFFD [] ∷ []
 
 abbrev buffer : List ℕ
 buffer = replicate 80 170
@@ -38,15 +38,15 @@ starts : started buffer .outcome ≡ done
 unfolding started startOutcome
 starts = refl
 
-taken : run buffer tried .taken ≡ physical ∷ release ∷ virtual ∷ depth ∷ []
+taken-are : run buffer tried .taken ≡ physical ∷ release ∷ virtual ∷ depth ∷ []
 unfolding started startOutcome added addOutcome goodCursor tagBytes
-taken = refl
+taken-are = refl
 
-words : AreWords tried
-words = (lit< tt, lit< tt, (lit< tt, lit< tt, (lit< tt, lit< tt, (lit< tt, lit< tt, (lit< tt, lit< tt, (lit< tt, lit< tt, (lit< tt, lit< tt, tt)))))))
+are-words : AreWords tried
+are-words = (lit< tt, lit< tt, (lit< tt, lit< tt, (lit< tt, lit< tt, (lit< tt, lit< tt, (lit< tt, lit< tt, (lit< tt, lit< tt, (lit< tt, lit< tt, tt)))))))
 
-pub finishes : requestBuilt buffer tried .answer .outcome ≡ done
-finishes = finishing buffer tried starts
+pub can-finish : requestBuilt buffer tried .answer .outcome ≡ done
+can-finish = finishing buffer tried starts
 
 pub lists-taken : Lists (requestBuilt buffer tried .bytes) (physical ∷ release ∷ virtual ∷ depth ∷ [])
-lists-taken = rw taken at (listing buffer tried words starts)
+lists-taken = rw taken-are at (listing buffer tried are-words starts)

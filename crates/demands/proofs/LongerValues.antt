@@ -33,7 +33,7 @@ use Rattle.demands.proofs.Laws.ReadBack.{stored-is}
 use Rattle.demands.proofs.Laws.Replied.{Replied, untouched, walked, replied, clash}
 use Rattle.demands.proofs.Laws.Sought.{SoughtAt, sought-at}
 use Rattle.demands.proofs.ReadingBack.{answer-fits, reads, found-left}
-use Rattle.demands.proofs.Walked.{walked-is, bytes-are}
+use Rattle.demands.proofs.Walked.{walked-is, served-bytes}
 use Rattle.demands.specs.LongerValues.{tagWords, AlikeButLonger, storedAnswer, Begins, bytesRead}
 use Rattle.demands.specs.LongerValues.{ShownAlike, ReadAlike, ServedAlike, LongerValues}
 use Rattle.demands.specs.ReadingBack.{readingOf, sought, readingAt, storedCount, ReadsAnswer}
@@ -56,7 +56,7 @@ served-faultless b m d = go (replied b m)
     go (walked v g e) = record {
       ending = sym (ap (λ (r : Call Served). r .answer .outcome) e) ∙ d;
       board = ap (λ (r : Call Served). r .answer .board) e;
-      found-is = λ id n wanted. ap (λ (x : List ℕ). found x id n wanted) (ap (λ (r : Call Served). r .bytes) e ∙ bytes-are b m g) ∙ found-left b m g
+      found-is = λ id n wanted. ap (λ (x : List ℕ). found x id n wanted) (ap (λ (r : Call Served). r .bytes) e ∙ served-bytes b m g) ∙ found-left b m g
           id n wanted;
     }
 
@@ -90,22 +90,22 @@ begins-take n k xs l h = ap (λ (x : ℕ). take x (take k xs)) (length-take-le n
 
 -- ---- refusals of paired tags
 record RefusedAlike (r r′ : Reading) : Type 0 where
-  pub missing : r .outcome ≡ noSuchTag → r′ .outcome ≡ noSuchTag
-  pub unanswered : r .outcome ≡ notAnswered → r′ .outcome ≡ notAnswered
+  pub not-there : r .outcome ≡ noSuchTag → r′ .outcome ≡ noSuchTag
+  pub not-answered : r .outcome ≡ notAnswered → r′ .outcome ≡ notAnswered
 
 judged-alike : (t u : Tag) (wanted : ℕ) → SameHeader t u → RefusedAlike (judged t wanted) (judged u wanted)
 unfolding judged
 judged-alike t u wanted p = go (isAnswered t) (isAnswered u) (ltb (stored t) wanted) (ap (leb 0x8000_0000) (p .word))
   where
     go : (a c f : Bool) → a ≡ c → RefusedAlike (judgedBy a f t wanted) (judgedBy c (ltb (stored u) wanted) u wanted)
-    go true c true e = record { missing = λ z. absurd (omega arith); unanswered = λ z. absurd (omega arith) }
-    go true c false e = record { missing = λ z. absurd (omega arith); unanswered = λ z. absurd (omega arith) }
+    go true c true e = record { not-there = λ z. absurd (omega arith); not-answered = λ z. absurd (omega arith) }
+    go true c false e = record { not-there = λ z. absurd (omega arith); not-answered = λ z. absurd (omega arith) }
     go false true f e = absurd (true≢false cc)
-    go false false f e = record { missing = λ z. absurd (omega arith); unanswered = λ z. refl }
+    go false false f e = record { not-there = λ z. absurd (omega arith); not-answered = λ z. refl }
 
 ends-alike : (e e′ : Ending) → e .outcome ≡ done → e′ .outcome ≡ done → RefusedAlike (unmet e) (unmet e′)
 ends-alike e e′ d d′ =
-    rw (unmet-end e d, unmet-end e′ d′) (record { missing = λ z. refl; unanswered = λ z. absurd (omega arith) })
+    rw (unmet-end e d, unmet-end e′ d′) (record { not-there = λ z. refl; not-answered = λ z. absurd (omega arith) })
 
 -- ---- the claim
 module _ (b : Board) (m m′ : List ℕ) (p : AlikeButLonger b m m′) where
@@ -181,20 +181,20 @@ module _ (b : Board) (m m′ : List ℕ) (p : AlikeButLonger b m m′) where
     shown-alike : (wanted : ℕ) → readingAt b m i wanted .outcome ≡ done → ShownAlike b m m′ (readingAt b m i wanted) (readingAt b m′ i wanted)
     shown-alike wanted z = go (ltb (storedCount m i answer) wanted) refl
       where
-        first : ReadsAnswer b m i answer
-        first = read-at b m (p .faultless) i l answer e
+        read-first : ReadsAnswer b m i answer
+        read-first = read-at b m (p .faultless) i l answer e
 
-        second : ReadsAnswer b m′ i answer
-        second = read-at b m′ (p .faultless′) i l′ answer e′
+        read-second : ReadsAnswer b m′ i answer
+        read-second = read-at b m′ (p .faultless′) i l′ answer e′
 
         go : (c : Bool) → ltb (storedCount m i answer) wanted ≡ c → ShownAlike b m m′ (readingAt b m i wanted) (readingAt b m′ i wanted)
-        go true q = let k = ap (λ (r : Reading). r .outcome) (first .fewer wanted (ltb-true _ _ q)) in absurd (omega arith)
+        go true q = let k = ap (λ (r : Reading). r .outcome) (read-first .fewer wanted (ltb-true _ _ q)) in absurd (omega arith)
         go false q =
             let n = ltb-false _ _ q in
-            rw (first .shows wanted n, second .shows wanted (longer wanted n)) (record {
+            rw (read-first .shows wanted n, read-second .shows wanted (longer wanted n)) (record {
               outcome = refl;
               total = refl;
-              bytes = second .bytes wanted (longer wanted n) ∙ sym (first .bytes wanted n);
+              bytes = read-second .bytes wanted (longer wanted n) ∙ sym (read-first .bytes wanted n);
             })
 
   -- the reader, by the tag that it seeks
@@ -220,8 +220,8 @@ module _ (b : Board) (m m′ : List ℕ) (p : AlikeButLonger b m m′) where
     read-alike = record {
       shown = λ w z. let l = answered-inside b m i w in
           rw (seeks l, seeks′ l) (shown-alike i l (w .1 .0) (w .1 .1) wanted (rw (seeks l) at z));
-      missing = refused-alike id n wanted .missing;
-      unanswered = refused-alike id n wanted .unanswered;
+      not-there = refused-alike id n wanted .not-there;
+      not-answered = refused-alike id n wanted .not-answered;
     }
 
   pub served-alike : ServedAlike b m m′

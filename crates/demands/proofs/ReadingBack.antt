@@ -29,7 +29,7 @@ use Rattle.responder.proofs.Laws.Written.{writes-length}
 use Rattle.demands.proofs.Laws.ReadBack.{nth-at, judged-shows, judged-lacks, value-written}
 use Rattle.demands.proofs.Laws.Sought.{sought-tag}
 use Rattle.demands.proofs.Laws.Replied.{Replied, untouched, walked, replied, clash}
-use Rattle.demands.proofs.Walked.{filled, code, whole, bytes-are, size-same, follows-whole}
+use Rattle.demands.proofs.Walked.{filled, codeBytes, replyBytes, served-bytes, size-same, follows-reply}
 use Rattle.demands.specs.ReadingBack.{occurrence, EveryTagSought, Reads, ReadingBack}
 use Rattle.demands.specs.Terms.{walkOf, tagOf, trailOf, decisionOf, answersOf, saidAt}
 use Rattle.demands.specs.Walked.{tagAfter, tagsAfter}
@@ -47,10 +47,10 @@ answer-fits b m i e = fits-at (answersOf b m) i (saids-fit (decisionOf b m) b (t
 -- ---- what the responder left, to the reader
 module _ (b : Board) (m : List ℕ) (g : GoodSize (word m 0) (length m)) where
   abbrev left : List ℕ
-  left = whole b m g
+  left = replyBytes b m g
 
   length-left : length left ≡ length m
-  length-left = length-put codePlace (code b m g) (filled b m g) ∙ writes-length (walkOf m .tags) (answersOf b m) m
+  length-left = length-put codePlace (codeBytes b m g) (filled b m g) ∙ writes-length (walkOf m .tags) (answersOf b m) m
 
   pub opens : opened left ≡ Opened.Good (record { size = word m 0 })
   opens =
@@ -77,7 +77,7 @@ module _ (b : Board) (m : List ℕ) (g : GoodSize (word m 0) (length m)) where
       go false e = response-fault e
 
   walk-left : walkFrom left (word m 0) header ≡ record { tags = tagsAfter (walkOf m .tags) (answersOf b m); ending = walkOf m .ending }
-  walk-left = follows-walk left (word m 0) header (tagsAfter (walkOf m .tags) (answersOf b m)) (walkOf m .ending) (follows-whole b m g)
+  walk-left = follows-walk left (word m 0) header (tagsAfter (walkOf m .tags) (answersOf b m)) (walkOf m .ending) (follows-reply b m g)
 
   pub found-left : (id n wanted : ℕ)
       → found left id n wanted ≡ foundIn id n wanted (record { tags = tagsAfter (walkOf m .tags) (answersOf b m); ending = walkOf m .ending })
@@ -92,7 +92,7 @@ module _ (b : Board) (m : List ℕ) (g : GoodSize (word m 0) (length m)) where
   value-left : (i : ℕ) → i < length (walkOf m .tags) → {answer : List ℕ} → saidAt b m i ≡ says answer → (k : ℕ) → k ≤ min (length answer) (tagOf m i .size)
       → take k (drop (tagOf m i .at + tagHeader) left) ≡ take k answer
   value-left i l e k q =
-      ap (take k) (drop-later header (tagOf m i .at + tagHeader) left (filled b m g) (omega arith) (drop-put codePlace (code b m g) (filled b m g)
+      ap (take k) (drop-later header (tagOf m i .at + tagHeader) left (filled b m g) (omega arith) (drop-put codePlace (codeBytes b m g) (filled b m g)
       header (omega arith)))
       ∙ value-written m (word m 0) header (walkOf m .tags) (answersOf b m) (walkOf m .ending) (follows m (word m 0) header) (g .within) i l e k q
 
@@ -118,7 +118,7 @@ reads b m w = go (replied b m)
   where
     go : Replied b m → Reads b m
     go (untouched o e f z) = absurd (clash (reply b m .answer .outcome) w o)
-    go (walked v g e) = reads-left b m g (ap (λ (r : _). r .bytes) e ∙ bytes-are b m g)
+    go (walked v g e) = reads-left b m g (ap (λ (r : _). r .bytes) e ∙ served-bytes b m g)
 
 pub every-tag-sought : EveryTagSought
 every-tag-sought m i l = sought-tag (walkOf m .tags) i l

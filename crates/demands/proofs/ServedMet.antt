@@ -53,53 +53,53 @@ abbrev pub tag : (at id size : ℕ) → Tag
 tag at id size = record { at = at; id = id; size = size; word = 0 }
 
 -- ---- MAC address, an unknown id, set depth 16, get depth
-abbrev pub mixture : List ℕ
-mixture = wordBytes (76 ∷ 0 ∷ 0x00010003 ∷ 4 ∷ 0 ∷ 0 ∷ 0x00099999 ∷ 4 ∷ 0 ∷ 7 ∷ 0x00048005 ∷ 4 ∷ 0 ∷ 16 ∷ 0x00040005 ∷ 4 ∷ 0 ∷ 0 ∷ 0 ∷ [])
+abbrev pub severalTags : List ℕ
+severalTags = wordBytes (76 ∷ 0 ∷ 0x00010003 ∷ 4 ∷ 0 ∷ 0 ∷ 0x00099999 ∷ 4 ∷ 0 ∷ 7 ∷ 0x00048005 ∷ 4 ∷ 0 ∷ 16 ∷ 0x00040005 ∷ 4 ∷ 0 ∷ 0 ∷ 0 ∷ [])
 
-pub mixture-done : reply bench mixture .answer .outcome ≡ done
+pub several-done : reply bench severalTags .answer .outcome ≡ done
 unfolding reply served opened goodSize numberAt trail walkFrom step overruns tagAt requestOf requestBy requestBytes rowOf table outsideTags groupTags
-mixture-done = rw bench-valid
+several-done = rw bench-valid
 
 -- the MAC address, the set and the get are answered, and the unknown tag is silent
 abbrev pub macBytes : List ℕ
 macBytes = 0xB8 ∷ 0x27 ∷ 0xEB ∷ 0x4D ∷ 0x91 ∷ 0xF6 ∷ []
 
-mixture-answers : answersOf bench mixture
+several-answers : answersOf bench severalTags
     ≡ says macBytes ∷ silent ∷ says (16 ∷ 0 ∷ 0 ∷ 0 ∷ []) ∷ says (16 ∷ 0 ∷ 0 ∷ 0 ∷ []) ∷ []
 unfolding bench numberAt trail walkFrom step overruns tagAt requestOf requestBy requestBytes rowOf table outsideTags groupTags groupOf decided accepted allocatable fitsBuffer placedAt oneBit onesIn supportedFrom nthWord noted withSetting turnOf outsideAnswer outsideAfter factAnswer groupAnswer supported possible sides depths offsets pitch need
-mixture-answers = refl
+several-answers = refl
 
-pub mac-said : saidAt bench mixture 0 ≡ says macBytes
-mac-said = ap (λ (ss : List Said). getD ss 0 silent) mixture-answers
+pub mac-said : saidAt bench severalTags 0 ≡ says macBytes
+mac-said = ap (λ (ss : List Said). getD ss 0 silent) several-answers
 
-mixture-trail : trailOf mixture .tags ≡ tag 8 0x00010003 4 ∷ tag 24 0x00099999 4 ∷ tag 40 0x00048005 4 ∷ tag 56 0x00040005 4 ∷ []
+several-trail : trailOf severalTags .tags ≡ tag 8 0x00010003 4 ∷ tag 24 0x00099999 4 ∷ tag 40 0x00048005 4 ∷ tag 56 0x00040005 4 ∷ []
 unfolding numberAt trail walkFrom step overruns tagAt requestOf requestBy requestBytes rowOf table outsideTags groupTags
-mixture-trail = refl
+several-trail = refl
 
 -- `Kept`: the record that it leaves is valid
-pub mixture-kept : valid (reply bench mixture .answer .board) ≡ true
-mixture-kept = kept bench mixture bench-valid
+pub several-kept : valid (reply bench severalTags .answer .board) ≡ true
+several-kept = kept bench severalTags bench-valid
 
 -- `SameLength`: its 76 bytes
-pub mixture-length : length (reply bench mixture .bytes) ≡ 76
-mixture-length = same-length bench mixture
+pub several-length : length (reply bench severalTags .bytes) ≡ 76
+several-length = same-length bench severalTags
 
 -- `Changes`: the value of the unknown tag, at 36
-pub mixture-value : getD (reply bench mixture .bytes) 36 0 ≡ 7
-mixture-value =
-    changes bench mixture 36 (inr (lit≤ tt))
-    (rw (mixture-trail, mixture-answers) (inr (lit≤ tt), inr (lit≤ tt), (inl (lit< tt), inl (lit< tt), (inl (lit< tt), inl (lit< tt), tt))))
+pub several-value : getD (reply bench severalTags .bytes) 36 0 ≡ 7
+several-value =
+    changes bench severalTags 36 (inr (lit≤ tt))
+    (rw (several-trail, several-answers) (inr (lit≤ tt), inr (lit≤ tt), (inl (lit< tt), inl (lit< tt), (inl (lit< tt), inl (lit< tt), tt))))
 
 -- `Walked`, `EveryTagSought` and `ReadingBack`
-pub mixture-tags : LeavesTags bench mixture
-mixture-tags = walked-is bench mixture (inl mixture-done)
+pub several-tags : LeavesTags bench severalTags
+several-tags = walked-is bench severalTags (inl several-done)
 
-pub mixture-sought : sought mixture (tagOf mixture 3 .id) (occurrence mixture 3) ≡ 3
+pub several-sought : sought severalTags (tagOf severalTags 3 .id) (occurrence severalTags 3) ≡ 3
 unfolding numberAt walkFrom step overruns tagAt
-mixture-sought = every-tag-sought mixture 3 (lit< tt)
+several-sought = every-tag-sought severalTags 3 (lit< tt)
 
-pub mixture-read : Reads bench mixture
-mixture-read = reads bench mixture (inl mixture-done)
+pub several-read : Reads bench severalTags
+several-read = reads bench severalTags (inl several-done)
 
 -- `AnswerLengths`: the arrays of the bench record
 pub bench-arrays : HasArrays bench
@@ -107,19 +107,19 @@ unfolding bench
 bench-arrays = record { mac = refl; line = refl }
 
 -- `AnsweredWhen`: the MAC address is answered, by what the rule asks; the unknown tag is not
-pub mac-answered : Answered bench mixture 0
+pub mac-answered : Answered bench severalTags 0
 unfolding numberAt walkFrom step overruns tagAt rowOf table outsideTags groupTags
 mac-answered =
-    answered-when bench mixture 0 .1 (record {
+    answered-when bench severalTags 0 .1 (record {
       known = (factKind FactTag.Mac, 0, refl);
       request = lit< tt;
-      before = inl mixture-done;
+      before = inl several-done;
       group = λ w. absurd (true≢false cc);
     })
 
-pub unknown-silent : Answered bench mixture 1 → ⊥
+pub unknown-silent : Answered bench severalTags 1 → ⊥
 unfolding numberAt walkFrom step overruns tagAt rowOf table outsideTags groupTags
-unknown-silent a = let k = answered-when bench mixture 1 .0 a .known in let e = k .2 in true≢false cc
+unknown-silent a = let k = answered-when bench severalTags 1 .0 a .known in let e = k .2 in true≢false cc
 
 -- ---- release, set depth 7, on a record with a buffer: the operation is refused
 abbrev pub standingBuffer : Board
@@ -203,6 +203,6 @@ coded-untouched = refusals bench codeOne (inr (inr (inl (rw bench-valid))))
 abbrev spoiled : Board
 spoiled = withDevices bench (record { state = record { exists = false; on = true }; timing = 0 } ∷ [])
 
-pub spoiled-untouched : Untouched spoiled mixture
+pub spoiled-untouched : Untouched spoiled severalTags
 unfolding reply bench valid validFacts validDevice validState
-spoiled-untouched = refusals spoiled mixture (inr (inr (inr refl)))
+spoiled-untouched = refusals spoiled severalTags (inr (inr (inr refl)))

@@ -28,41 +28,41 @@ module _ (b : Board) (m : List ℕ) (g : GoodSize (word m 0) (length m)) where
   abbrev pub filled : List ℕ
   filled = writeAll (walkOf m .tags) (answersOf b m) m
 
-  abbrev pub code : List ℕ
-  code = le 4 (codeOf (trailOf m .ending .outcome))
+  abbrev pub codeBytes : List ℕ
+  codeBytes = le 4 (codeOf (trailOf m .ending .outcome))
 
-  abbrev pub whole : List ℕ
-  whole = put codePlace code filled
+  abbrev pub replyBytes : List ℕ
+  replyBytes = put codePlace codeBytes filled
 
-  pub bytes-are : served b m (word m 0) .bytes ≡ whole
+  pub served-bytes : served b m (word m 0) .bytes ≡ replyBytes
   unfolding served trail
-  bytes-are =
-      ap (put codePlace code)
+  served-bytes =
+      ap (put codePlace codeBytes)
       (cut-writes (turnOf (decisionOf b m)) b m (walkOf m .tags) (walkOf m .ending) m)
 
   before : take header filled ≡ take header m
   before = writes-before m (word m 0) header (walkOf m .tags) (answersOf b m) (walkOf m .ending) (follows m (word m 0) header)
 
-  pub size-same : word whole 0 ≡ word m 0
+  pub size-same : word replyBytes 0 ≡ word m 0
   size-same =
-      number-before 4 0 codePlace whole filled (omega arith) (take-put codePlace codePlace code filled (omega arith)) ∙ number-before 4 0 header
+      number-before 4 0 codePlace replyBytes filled (omega arith) (take-put codePlace codePlace codeBytes filled (omega arith)) ∙ number-before 4 0 header
       filled m (omega arith) before
 
-  pub follows-whole : Follows whole (word m 0) header (tagsAfter (walkOf m .tags) (answersOf b m)) (walkOf m .ending)
-  follows-whole =
-      follows-same filled whole (word m 0) header (tagsAfter (walkOf m .tags) (answersOf b m)) (walkOf m .ending) (sym (drop-put codePlace code filled
+  pub follows-reply : Follows replyBytes (word m 0) header (tagsAfter (walkOf m .tags) (answersOf b m)) (walkOf m .ending)
+  follows-reply =
+      follows-same filled replyBytes (word m 0) header (tagsAfter (walkOf m .tags) (answersOf b m)) (walkOf m .ending) (sym (drop-put codePlace codeBytes filled
       header (omega arith)))
       (follows-written m (word m 0) header (walkOf m .tags) (answersOf b m) (walkOf m .ending) (follows m (word m 0) header)
       (saids-fit (decisionOf b m) b (trailOf m .requests)) (g .within))
 
-  pub walk-whole : walkOf whole ≡ record { tags = tagsAfter (walkOf m .tags) (answersOf b m); ending = walkOf m .ending }
-  walk-whole =
-      ap (λ (n : ℕ). walkFrom whole n header) size-same
-      ∙ follows-walk whole (word m 0) header (tagsAfter (walkOf m .tags) (answersOf b m)) (walkOf m .ending) follows-whole
+  pub walk-reply : walkOf replyBytes ≡ record { tags = tagsAfter (walkOf m .tags) (answersOf b m); ending = walkOf m .ending }
+  walk-reply =
+      ap (λ (n : ℕ). walkFrom replyBytes n header) size-same
+      ∙ follows-walk replyBytes (word m 0) header (tagsAfter (walkOf m .tags) (answersOf b m)) (walkOf m .ending) follows-reply
 
 pub walked-is : Walked
 walked-is b m w = go (replied b m)
   where
     go : Replied b m → LeavesTags b m
     go (untouched o e f z) = absurd (clash (reply b m .answer .outcome) w o)
-    go (walked v g e) = rw (e, bytes-are b m g) (walk-whole b m g)
+    go (walked v g e) = rw (e, served-bytes b m g) (walk-reply b m g)

@@ -4,7 +4,7 @@ use mathlib.Core.List.{List, [], _∷_}
 use Prim.Native.Nat.{ℕ}
 use lib.Dec.{T, eqb}
 use Rattle.words.specs.Numbers.{wordBytes}
-use Rattle.words.specs.All.{all}
+use Rattle.words.specs.Every.{every}
 use Rattle.message.specs.Builder.{Call}
 use Rattle.message.specs.Outcomes.{done}
 use Rattle.board.specs.Bench.{bench}
@@ -19,7 +19,7 @@ use Rattle.responder.specs.declared.respond.Served.{Served}
 -- pitch; the offsets of a voltage's maximum and minimum
 pub data Case : Type 0 where
   serves : (earlier : List (List ℕ)) (given : List ℕ) (outcome place : ℕ) (gives : List ℕ) → Case
-  sets : (given gives : List ℕ) (afterwards : Settings) → Case
+  leavesSettings : (given gives : List ℕ) (afterwards : Settings) → Case
   hasPitch : (width depth pitch : ℕ) → Case
   hasOffsets : (millivolts maximum minimum : ℕ) → Case
 
@@ -49,7 +49,7 @@ isReply r outcome place words =
 unfoldable pub right : Case → Bool
 right (serves earlier given outcome place gives) =
     isReply (reply (boardAfter bench earlier) (wordBytes given)) outcome place gives
-right (sets given gives afterwards) =
+right (leavesSettings given gives afterwards) =
     let r = reply bench (wordBytes given) in
     isReply r done 0 gives && equal (numbersOf (r .answer .board .display .settings)) (numbersOf afterwards)
 right (hasPitch width depth pitch) = eqb (pitchOf width depth) pitch
@@ -78,7 +78,7 @@ cases =
     -- B1: no tag
     serves [] (12 ∷ 0 ∷ 0 ∷ []) 0 0 (12 ∷ 0x80000000 ∷ 0 ∷ [])
     -- B2: the settings of a screen; B3: then its buffer
-    ∷ sets screen screenSet (record {
+    ∷ leavesSettings screen screenSet (record {
       physical = record { width = 640; height = 480 };
       logical = record { width = 640; height = 480 };
       offset = record { x = 0; y = 0 };
@@ -107,4 +107,4 @@ cases =
 
 -- Every case comes out as it says.
 abbrev pub Examples : Type 0
-Examples = T (all right cases)
+Examples = T (every right cases)

@@ -71,9 +71,9 @@ pub record ReadAlike (b : Board) (m m′ : List ℕ) (id n wanted : ℕ) : Type 
   pub shown : Answered b m (sought m id n) → readingOf b m id n wanted .outcome ≡ done
       → ShownAlike b m m′ (readingOf b m id n wanted) (readingOf b m′ id n wanted)
   -- where it refuses the first with 11, it refuses the second with 11
-  pub missing : readingOf b m id n wanted .outcome ≡ noSuchTag → readingOf b m′ id n wanted .outcome ≡ noSuchTag
+  pub not-there : readingOf b m id n wanted .outcome ≡ noSuchTag → readingOf b m′ id n wanted .outcome ≡ noSuchTag
   -- where it refuses the first with 12, it refuses the second with 12
-  pub unanswered : readingOf b m id n wanted .outcome ≡ notAnswered
+  pub not-answered : readingOf b m id n wanted .outcome ≡ notAnswered
       → readingOf b m′ id n wanted .outcome ≡ notAnswered
 
 pub record ServedAlike (b : Board) (m m′ : List ℕ) : Type 0 where

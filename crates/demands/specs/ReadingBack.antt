@@ -11,7 +11,7 @@ use Rattle.message.specs.Sizes.{tagHeader}
 use Rattle.message.specs.declared.reader.Reading.{Reading}
 use Rattle.message.specs.declared.walk.Tag.{Tag}
 use Rattle.board.specs.declared.record.Board.{Board}
-use Rattle.requests.specs.Requests.{Walks}
+use Rattle.requests.specs.Requests.{WalkOutcome}
 use Rattle.responder.specs.Reply.{reply}
 use Rattle.responder.specs.Turns.{silent, says}
 use Rattle.demands.specs.Terms.{walkOf, tagOf, saidAt}
@@ -73,4 +73,4 @@ pub record Reads (b : Board) (m : List ℕ) : Type 0 where
       → (wanted : ℕ) → readingAt b m i wanted ≡ unread notAnswered 0
 
 abbrev pub ReadingBack : Type 0
-ReadingBack = (b : Board) (m : List ℕ) → Walks (reply b m .answer .outcome) → Reads b m
+ReadingBack = (b : Board) (m : List ℕ) → WalkOutcome (reply b m .answer .outcome) → Reads b m

@@ -9,7 +9,7 @@ use Rattle.message.specs.Walk.{Walk, walkFrom}
 use Rattle.message.specs.declared.walk.Tag.{Tag}
 use Rattle.board.specs.declared.record.Board.{Board}
 use Rattle.display.specs.declared.decision.Decision.{Decision}
-use Rattle.requests.specs.Requests.{Trail, trail, Walks}
+use Rattle.requests.specs.Requests.{Trail, trail, WalkOutcome}
 use Rattle.responder.specs.Answers.{groupOf, answers}
 use Rattle.responder.specs.Reply.{reply}
 use Rattle.responder.specs.Turns.{Said, silent, says}
@@ -44,4 +44,4 @@ saidAt b m i = getD (answersOf b m) i silent
 
 -- the tag of an index is answered: the message is walked, and the tag says something
 abbrev pub Answered : Board → List ℕ → ℕ → Type 0
-Answered b m i = Walks (reply b m .answer .outcome) × ((answer : List ℕ) × (saidAt b m i ≡ says answer))
+Answered b m i = WalkOutcome (reply b m .answer .outcome) × ((answer : List ℕ) × (saidAt b m i ≡ says answer))

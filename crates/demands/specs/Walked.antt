@@ -6,7 +6,7 @@ use Prim.Native.Nat.{ℕ, _+_}
 use lib.ListN.{length}
 use Rattle.message.specs.declared.walk.Tag.{Tag}
 use Rattle.board.specs.declared.record.Board.{Board}
-use Rattle.requests.specs.Requests.{Walks}
+use Rattle.requests.specs.Requests.{WalkOutcome}
 use Rattle.responder.specs.Reply.{reply}
 use Rattle.responder.specs.Turns.{Said, silent, says}
 use Rattle.demands.specs.Terms.{walkOf, answersOf}
@@ -30,4 +30,4 @@ LeavesTags b m =
 
 -- Wherever the responder walked the message.
 abbrev pub Walked : Type 0
-Walked = (b : Board) (m : List ℕ) → Walks (reply b m .answer .outcome) → LeavesTags b m
+Walked = (b : Board) (m : List ℕ) → WalkOutcome (reply b m .answer .outcome) → LeavesTags b m

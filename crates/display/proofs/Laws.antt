@@ -1,5 +1,5 @@
 pub mod Decision
 pub mod Kept
-pub mod Lengths
+pub mod AnswerFits
 pub mod Operation
 pub mod GroupPut

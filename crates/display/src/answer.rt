@@ -2,16 +2,16 @@
 //
 // No entry points: the walk above has found the tag at `at`, whose value has `size` bytes, in the message.
 use crate::decision::Decision;
-use answers::reply::put_nothing;
-use answers::reply::put_pair;
-use answers::reply::put_word;
+use answers::writing::put_nothing;
+use answers::writing::put_pair;
+use answers::writing::put_word;
 use board::display::Settings;
 use table::kinds::FrameTag;
 use table::kinds::Setting;
 ghost use mathlib.Core.Path.{_≡_};
 ghost use lib.ListN.{length};
 ghost use Rattle.message.specs.Helpers.{InMessage};
-ghost use Rattle.answers.specs.Reply.{answered};
+ghost use Rattle.answers.specs.Writing.{answered};
 ghost use Rattle.display.specs.Decision.{settingAnswer};
 ghost use Rattle.display.specs.GroupPut.{FramePut, GroupPut};
 

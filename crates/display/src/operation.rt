@@ -20,7 +20,7 @@ pub struct Operation {
 }
 
 // The operation before its first tag.
-pub fn start(settings: Settings) -> Operation
+pub fn no_tag_yet(settings: Settings) -> Operation
     ensures { λ r. ⌜ r ≡ unasked settings ⌝ }
 {
     Operation {

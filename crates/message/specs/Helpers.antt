@@ -29,6 +29,6 @@ pub record TagFits (lent at size count next : ℕ) : Type 0 where
 -- the end may be written at `at`, and zeros up to the size
 pub record EndFits (lent at size : ℕ) : Type 0 where
   pub behind : at + endWord ≤ size
-  pub first : header ≤ at
+  pub from-header : header ≤ at
   pub within : size ≤ lent
   pub most : size ≤ largest

@@ -27,16 +27,16 @@ valueOf m t = take (t .size) (drop (t .at + tagHeader) m)
 
 -- a tag's request bytes, by its kind, the request length of its row, v and its value: the first of the value, to the
 -- request length
-unfoldable pub requestBytes : Kind → (length size : ℕ) → (value : List ℕ) → List ℕ
-requestBytes kind length size value = take length value
+unfoldable pub requestBytes : Kind → (least size : ℕ) → (value : List ℕ) → List ℕ
+requestBytes kind least size value = take least value
 
 -- a tag that came answered, with bit 31 of its word set, or an unknown id: passed over; bits 0 to 30 of a request's
 -- word are ignored
 unfoldable pub requestBy : (answered : Bool) → Row → (size : ℕ) → List ℕ → Request
 requestBy true row size value = passed
 requestBy false Row.Unknown size value = passed
-requestBy false (Row.Known kind length) size value =
-    cond (ltb size length) short (asks kind (requestBytes kind length size value))
+requestBy false (Row.Known kind least) size value =
+    cond (ltb size least) short (asks kind (requestBytes kind least size value))
 
 unfoldable pub requestOf : List ℕ → Tag → Request
 requestOf m t = requestBy (isAnswered t) (rowOf (t .id)) (t .size) (valueOf m t)
@@ -68,5 +68,5 @@ unfoldable pub trail : List ℕ → (size p : ℕ) → Trail
 trail m size p = cut m (walkFrom m size p .tags) (walkFrom m size p .ending)
 
 -- the outcomes of a message that is walked: 0, or one of the faults 4, 5 and 6
-abbrev pub Walks : (outcome : ℕ) → Type 0
-Walks outcome = (outcome ≡ done) ⊎ ((outcome ≡ noEnd) ⊎ ((outcome ≡ runsOver) ⊎ (outcome ≡ shortRequest)))
+abbrev pub WalkOutcome : (outcome : ℕ) → Type 0
+WalkOutcome outcome = (outcome ≡ done) ⊎ ((outcome ≡ noEnd) ⊎ ((outcome ≡ runsOver) ⊎ (outcome ≡ shortRequest)))

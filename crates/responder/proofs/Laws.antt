@@ -6,4 +6,4 @@ pub mod Apart
 pub mod Twice
 pub mod Serving
 pub mod Responding
-pub mod Place
+pub mod ReplyPlace

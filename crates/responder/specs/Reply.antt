@@ -13,7 +13,7 @@ use Rattle.message.specs.declared.opening.Opened.{Opened}
 use Rattle.message.specs.declared.walk.Tag.{Tag}
 use Rattle.board.specs.Record.{withDisplay, valid}
 use Rattle.board.specs.declared.record.Board.{Board}
-use Rattle.answers.specs.Reply.{answered}
+use Rattle.answers.specs.Writing.{answered}
 use Rattle.display.specs.declared.decision.Decision.{Decision}
 use Rattle.requests.specs.Requests.{Request, Trail, trail}
 use Rattle.responder.specs.Answers.{groupOf, turnOf, after}

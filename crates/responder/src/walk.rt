@@ -1,12 +1,12 @@
 // The walk over a message that serves its tags. The record is the loop's own variable, and only one
 // item of it goes through a call.
-use answers::reply::put_pair;
+use answers::writing::put_pair;
 use board::record::Board;
 use display::answer::put_group;
 use display::decision::Decision;
 use display::operation::Operation;
+use display::operation::no_tag_yet;
 use display::operation::note;
-use display::operation::start;
 use message::opening::Message;
 use message::outcome;
 use message::walk::Ending;
@@ -72,7 +72,7 @@ pub fn serve_tags(board: Board, msg: &mut [u8], size: usize, group: Decision) ->
 {
     let mut b = board;
     let display = b.display;
-    let mut operation = start(display.settings);
+    let mut operation = no_tag_yet(display.settings);
     let mut p = Message::HEADER;
     loop {
         let st = step_at(msg, size, p);

@@ -2,7 +2,7 @@ pub mod Items
 pub mod Kept
 pub mod Alone
 pub mod Facts
-pub mod Lengths
+pub mod AnswerFits
 pub mod Offsets
 pub mod Places
-pub mod Served
+pub mod ServesOutside

@@ -10,13 +10,13 @@ use Rattle.tags.specs.Voltage.{voltageCount, voltagePlace, voltageValue}
 use Rattle.tags.specs.declared.place.Place.{Place}
 
 -- a place is within the items
-abbrev pub Within : ℕ → Place → Type 0
-Within count (Place.At i) = i < count
-Within count Place.Unlisted = Unit {0}
+abbrev pub AmongItems : ℕ → Place → Type 0
+AmongItems count (Place.At i) = i < count
+AmongItems count Place.Unlisted = Unit {0}
 
-pub record Placed (id first count : ℕ) (r : Place) : Type 0 where
-  pub is : r ≡ placeOf id first count
-  pub within : Within count r
+pub record Placed (id lowest count : ℕ) (r : Place) : Type 0 where
+  pub is : r ≡ placeOf id lowest count
+  pub within : AmongItems count r
 
 abbrev pub itemPlace : OutsideTag → (id : ℕ) → Place
 itemPlace (OutsideTag.Fact t) id = Place.At 0
@@ -35,7 +35,7 @@ itemCount (OutsideTag.Temperature t) = 1
 
 pub record Named (k : OutsideTag) (id : ℕ) (r : Place) : Type 0 where
   pub is : r ≡ itemPlace k id
-  pub within : Within (itemCount k) r
+  pub within : AmongItems (itemCount k) r
 
 abbrev pub absentValue : OutsideTag → ℕ
 absentValue (OutsideTag.Fact t) = 0

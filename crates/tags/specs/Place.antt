@@ -8,10 +8,10 @@ use Rattle.words.specs.Numbers.{nthWord}
 use Rattle.answers.specs.Answer.{twoWords}
 use Rattle.tags.specs.declared.place.Place.{Place}
 
--- the place of an id among `count` items whose ids begin at `first`: unlisted below the first and behind the last
-unfoldable pub placeOf : (id first count : ℕ) → Place
-placeOf id first count =
-    cond (ltb id first) Place.Unlisted (cond (leb count (id - first)) Place.Unlisted (Place.At (id - first)))
+-- the place of an id among `count` items whose ids begin at `lowest`: unlisted below the first and behind the last
+unfoldable pub placeOf : (id lowest count : ℕ) → Place
+placeOf id lowest count =
+    cond (ltb id lowest) Place.Unlisted (cond (leb count (id - lowest)) Place.Unlisted (Place.At (id - lowest)))
 
 -- the item at a place, or `none` where the id is not listed
 abbrev pub item : {A : Type 0} → A → List A → Place → A

@@ -1,15 +1,15 @@
 // Fixed facts.
-use answers::reply::put_bytes;
-use answers::reply::put_long;
-use answers::reply::put_pair;
-use answers::reply::put_word;
+use answers::writing::put_bytes;
+use answers::writing::put_long;
+use answers::writing::put_pair;
+use answers::writing::put_word;
 use board::facts::Facts;
 use table::kinds::FactTag;
-use words::bytes::first;
+use words::bytes::prefix;
 ghost use mathlib.Core.Path.{_≡_};
 ghost use lib.ListN.{length};
 ghost use Rattle.message.specs.Helpers.{InMessage};
-ghost use Rattle.answers.specs.Reply.{answered};
+ghost use Rattle.answers.specs.Writing.{answered};
 ghost use Rattle.tags.specs.Fact.{factAnswer};
 
 // Answers the tag at `at`, whose value has `size` bytes, with a fact; `line` is the record's command line, of
@@ -29,7 +29,7 @@ pub fn put_fact(msg: &mut [u8], at: usize, size: u32, f: Facts, line: &[u8], tag
         FactTag::Serial => put_long(msg, at, size, f.serial),
         FactTag::Arm => put_pair(msg, at, size, f.arm.base, f.arm.size),
         FactTag::Vc => put_pair(msg, at, size, f.vc.base, f.vc.size),
-        FactTag::Line => put_bytes(msg, at, size, first(first(line, 256), f.characters)),
+        FactTag::Line => put_bytes(msg, at, size, prefix(prefix(line, 256), f.characters)),
         FactTag::Dma => put_word(msg, at, size, f.dma),
     }
 }

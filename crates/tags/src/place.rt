@@ -6,14 +6,14 @@ pub enum Place {
     Unlisted,
 }
 
-// The place of an id among `count` items, whose ids begin at `first`.
-pub fn place_of(id: u32, first: u32, count: usize) -> Place
-    ensures { λ r. ⌜ Placed id first count r ⌝ }
+// The place of an id among `count` items, whose ids begin at `lowest`.
+pub fn place_of(id: u32, lowest: u32, count: usize) -> Place
+    ensures { λ r. ⌜ Placed id lowest count r ⌝ }
 {
-    if id < first {
+    if id < lowest {
         return Place::Unlisted;
     }
-    let i = (id - first) as usize;
+    let i = (id - lowest) as usize;
     if count <= i {
         return Place::Unlisted;
     }

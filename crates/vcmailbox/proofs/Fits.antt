@@ -17,7 +17,7 @@ use Rattle.message.specs.declared.builder.Finished.{Finished}
 use Rattle.message.specs.declared.lister.Listed.{Listed}
 use Rattle.message.specs.declared.reader.Reading.{Reading}
 use Rattle.board.specs.declared.record.Board.{Board}
-use Rattle.responder.proofs.Laws.Place.{reply-inside}
+use Rattle.responder.proofs.Laws.ReplyPlace.{reply-inside}
 use Rattle.responder.specs.Reply.{reply}
 use Rattle.responder.specs.declared.respond.Served.{Served}
 

@@ -14,7 +14,7 @@ use Rattle.words.specs.Put.{over, put}
 use Rattle.message.specs.Sizes.{tagHeader}
 use Rattle.message.specs.Walk.{wordPlace}
 use Rattle.answers.specs.Answer.{twoWords}
-use Rattle.answers.specs.Reply.{answered}
+use Rattle.answers.specs.Writing.{answered}
 
 -- ---- numbers made in an array of their own, and stored
 pub store-by : (k n : ℕ) (m : List ℕ) {bytes m′ : List ℕ} → bytes ≡ put 0 (le k n) (replicate k 0) → m′ ≡ over bytes m → m′ ≡ over (le k n) m

@@ -2,7 +2,7 @@
 use mathlib.Core.Bool.{true, _&&_, and-eq-true-iff}
 use mathlib.Core.List.{List}
 use mathlib.Core.Path.{_≡_}
-use Rattle.words.specs.All.{all}
+use Rattle.words.specs.Every.{every}
 use Rattle.board.specs.Display.{validDisplay}
 use Rattle.board.specs.Facts.{validFacts}
 use Rattle.board.specs.Items.{validDevice, validClock, validVoltage}
@@ -14,43 +14,43 @@ use Rattle.board.specs.declared.items.Voltage.{Voltage}
 use Rattle.board.specs.declared.record.Board.{Board}
 
 -- ---- the parts
-pub record Parts (b : Board) : Type 0 where
+pub record ValidParts (b : Board) : Type 0 where
   pub facts : validFacts (b .facts) ≡ true
-  pub devices : all validDevice (b .devices) ≡ true
-  pub clocks : all validClock (b .clocks) ≡ true
-  pub voltages : all validVoltage (b .voltages) ≡ true
+  pub devices : every validDevice (b .devices) ≡ true
+  pub clocks : every validClock (b .clocks) ≡ true
+  pub voltages : every validVoltage (b .voltages) ≡ true
   pub display : validDisplay (b .display) ≡ true
 
 module _ (b : Board) where
-  pub valid-parts : valid b ≡ true → Parts b
+  pub valid-parts : valid b ≡ true → ValidParts b
   unfolding valid
   valid-parts e =
       let f = validFacts (b .facts) in
-      let d = all validDevice (b .devices) in
-      let c = all validClock (b .clocks) in
-      let v = all validVoltage (b .voltages) in
+      let d = every validDevice (b .devices) in
+      let c = every validClock (b .clocks) in
+      let v = every validVoltage (b .voltages) in
       let e3 = and-eq-true-iff (f && d && c && v) (validDisplay (b .display)) .0 e in
       let e2 = and-eq-true-iff (f && d && c) v .0 (e3 .0) in
       let e1 = and-eq-true-iff (f && d) c .0 (e2 .0) in
       let e0 = and-eq-true-iff f d .0 (e1 .0) in
       record { facts = e0 .0; devices = e0 .1; clocks = e1 .1; voltages = e2 .1; display = e3 .1 }
 
-  pub parts-valid : Parts b → valid b ≡ true
+  pub parts-valid : ValidParts b → valid b ≡ true
   unfolding valid
   parts-valid p = rw (p .facts, p .devices, p .clocks, p .voltages, p .display)
 
 -- ---- a part replaced
-pub devices-valid : (b : Board) (xs : List Device) → valid b ≡ true → all validDevice xs ≡ true → valid (withDevices b xs) ≡ true
+pub devices-valid : (b : Board) (xs : List Device) → valid b ≡ true → every validDevice xs ≡ true → valid (withDevices b xs) ≡ true
 devices-valid b xs e t =
     let p = valid-parts b e in
     parts-valid (withDevices b xs) (record { facts = p .facts; devices = t; clocks = p .clocks; voltages = p .voltages; display = p .display })
 
-pub clocks-valid : (b : Board) (xs : List Clock) → valid b ≡ true → all validClock xs ≡ true → valid (withClocks b xs) ≡ true
+pub clocks-valid : (b : Board) (xs : List Clock) → valid b ≡ true → every validClock xs ≡ true → valid (withClocks b xs) ≡ true
 clocks-valid b xs e t =
     let p = valid-parts b e in
     parts-valid (withClocks b xs) (record { facts = p .facts; devices = p .devices; clocks = t; voltages = p .voltages; display = p .display })
 
-pub voltages-valid : (b : Board) (xs : List Voltage) → valid b ≡ true → all validVoltage xs ≡ true → valid (withVoltages b xs) ≡ true
+pub voltages-valid : (b : Board) (xs : List Voltage) → valid b ≡ true → every validVoltage xs ≡ true → valid (withVoltages b xs) ≡ true
 voltages-valid b xs e t =
     let p = valid-parts b e in
     parts-valid (withVoltages b xs) (record { facts = p .facts; devices = p .devices; clocks = p .clocks; voltages = t; display = p .display })

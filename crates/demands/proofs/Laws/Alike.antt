@@ -7,7 +7,7 @@ use native.Mathlib.Omega.{arith}
 use borrow.Author.Tests.{leb-false}
 use lib.Dec.{ltb, eqb}
 use lib.ListN.{length, take, getD}
-use Rattle.message.proofs.Laws.Paired.{Paired, none, both}
+use Rattle.message.proofs.Laws.Paired.{Paired, no-pair, one-pair}
 use Rattle.message.specs.Outcomes.{done}
 use Rattle.message.specs.Reader.{isAnswered, keptTag, withId}
 use Rattle.message.specs.declared.walk.Ending.{Ending}
@@ -116,22 +116,22 @@ pub record SameHeader (t u : Tag) : Type 0 where
   pub word : t .word ≡ u .word
 
 pub paired-after : (m m′ : List ℕ) (ts ts′ : List Tag) (ss : List Said) → Alike m m′ ts ts′ → Paired SameHeader (tagsAfter ts ss) (tagsAfter ts′ ss)
-paired-after m m′ [] [] ss a = none
+paired-after m m′ [] [] ss a = no-pair
 paired-after m m′ [] (t′ ∷ ts′) ss a = absurd a
 paired-after m m′ (t ∷ ts) [] ss a = absurd a
-paired-after m m′ (t ∷ ts) (t′ ∷ ts′) [] a = both (record { id = a .0; word = a .1 }) (untold m m′ ts ts′ (a .4))
+paired-after m m′ (t ∷ ts) (t′ ∷ ts′) [] a = one-pair (record { id = a .0; word = a .1 }) (untold m m′ ts ts′ (a .4))
   where
     untold : (m m′ : List ℕ) (us us′ : List Tag) → Alike m m′ us us′ → Paired SameHeader us us′
-    untold m m′ [] [] q = none
+    untold m m′ [] [] q = no-pair
     untold m m′ [] (u′ ∷ us′) q = absurd q
     untold m m′ (u ∷ us) [] q = absurd q
-    untold m m′ (u ∷ us) (u′ ∷ us′) q = both (record { id = q .0; word = q .1 }) (untold m m′ us us′ (q .4))
-paired-after m m′ (t ∷ ts) (t′ ∷ ts′) (silent ∷ ss) a = both (record { id = a .0; word = a .1 }) (paired-after m m′ ts ts′ ss (a .4))
-paired-after m m′ (t ∷ ts) (t′ ∷ ts′) (says x ∷ ss) a = both (record { id = a .0; word = refl }) (paired-after m m′ ts ts′ ss (a .4))
+    untold m m′ (u ∷ us) (u′ ∷ us′) q = one-pair (record { id = q .0; word = q .1 }) (untold m m′ us us′ (q .4))
+paired-after m m′ (t ∷ ts) (t′ ∷ ts′) (silent ∷ ss) a = one-pair (record { id = a .0; word = a .1 }) (paired-after m m′ ts ts′ ss (a .4))
+paired-after m m′ (t ∷ ts) (t′ ∷ ts′) (says x ∷ ss) a = one-pair (record { id = a .0; word = refl }) (paired-after m m′ ts ts′ ss (a .4))
 
 pub paired-words : {ts us : List Tag} → Paired SameHeader ts us → map (λ t. t .word) ts ≡ map (λ t. t .word) us
-paired-words none = refl
-paired-words (both {t} {u} {ts} {us} p ps) = ap (λ (n : ℕ). n ∷ map (λ t. t .word) ts) (p .word) ∙ ap (λ (ns : List ℕ). u .word ∷ ns) (paired-words ps)
+paired-words no-pair = refl
+paired-words (one-pair {t} {u} {ts} {us} p ps) = ap (λ (n : ℕ). n ∷ map (λ t. t .word) ts) (p .word) ∙ ap (λ (ns : List ℕ). u .word ∷ ns) (paired-words ps)
 
 -- ---- the tags of an index
 pub record PairAt (t t′ : Tag) : Type 0 where

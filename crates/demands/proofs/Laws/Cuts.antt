@@ -10,7 +10,7 @@ use lib.Dec.{ltb, eqb}
 use lib.ListN.{getD}
 use Rattle.words.specs.Numbers.{word}
 use Rattle.message.proofs.Laws.Follows.{Follows}
-use Rattle.message.proofs.Laws.Steps.{found}
+use Rattle.message.proofs.Laws.Steps.{step-found}
 use Rattle.message.specs.Outcomes.{done}
 use Rattle.message.specs.Reader.{isAnswered}
 use Rattle.message.specs.Walk.{tagAt, overruns, stepOf, step, endingOf}
@@ -67,11 +67,11 @@ stop-place m size p = go (eqb p size) (eqb (word m p) 0) (overruns m size p)
 tag-later : (m : List ℕ) (size p : ℕ) (ts : List Tag) (e : Ending) → Follows m size p ts e → (i : ℕ)
     → (p ≤ getD ts i noTag .at) ⊎ (getD ts i noTag ≡ noTag)
 tag-later m size p [] e h i = inr refl
-tag-later m size p (t ∷ ts) e h zero = let f = found m size p (h .1) in inl (omega arith)
+tag-later m size p (t ∷ ts) e h zero = let f = step-found m size p (h .1) in inl (omega arith)
 tag-later m size p (t ∷ ts) e h (suc i) = go (tag-later m size (h .0) ts e (h .2) i)
   where
     go : (h .0 ≤ getD ts i noTag .at) ⊎ (getD ts i noTag ≡ noTag) → (p ≤ getD ts i noTag .at) ⊎ (getD ts i noTag ≡ noTag)
-    go (inl l) = let f = found m size p (h .1) in inl (omega arith)
+    go (inl l) = let f = step-found m size p (h .1) in inl (omega arith)
     go (inr q) = inr q
 
 abbrev EndsBehind : ℕ → Trail → Type 0
@@ -88,50 +88,50 @@ ends-behind m size p (t ∷ ts) e h = go (requestOf m t) (ends-behind m size (h 
   where
     later : EndsBehind (h .0) (cut m ts e) → EndsBehind p (cut m ts e)
     later (inl d) = inl d
-    later (inr l) = let f = found m size p (h .1) in inr (omega arith)
+    later (inr l) = let f = step-found m size p (h .1) in inr (omega arith)
 
     go : (r : Request) → EndsBehind (h .0) (cut m ts e) → EndsBehind p (cutBy r t (cut m ts e))
     go passed k = later k
-    go short k = let f = found m size p (h .1) in inr (omega arith)
+    go short k = let f = step-found m size p (h .1) in inr (omega arith)
     go (asks q request) k = later k
 
 -- ---- the tag of an index
 pub data CutAt (m : List ℕ) (t : Tag) (tr : Trail) (r : Request) : Type 0 where
-  before : r ≡ requestOf m t → (requestOf m t ≡ short → ⊥) → (tr .ending .outcome ≡ done) ⊎ (t .at < tr .ending .place) → CutAt m t tr r
-  behind : r ≡ passed → (tr .ending .outcome ≡ done → ⊥) → tr .ending .place ≤ t .at → CutAt m t tr r
-  nowhere : r ≡ passed → t ≡ noTag → CutAt m t tr r
+  cut-before : r ≡ requestOf m t → (requestOf m t ≡ short → ⊥) → (tr .ending .outcome ≡ done) ⊎ (t .at < tr .ending .place) → CutAt m t tr r
+  cut-behind : r ≡ passed → (tr .ending .outcome ≡ done → ⊥) → tr .ending .place ≤ t .at → CutAt m t tr r
+  cut-none : r ≡ passed → t ≡ noTag → CutAt m t tr r
 
 module _ (m : List ℕ) (size : ℕ) where
   pub cut-at : (p : ℕ) (ts : List Tag) (e : Ending) → Follows m size p ts e → (i : ℕ)
       → CutAt m (getD ts i noTag) (cut m ts e) (getD (cut m ts e .requests) i passed)
-  cut-at p [] e h i = nowhere refl refl
+  cut-at p [] e h i = cut-none refl refl
   cut-at p (t ∷ ts) e h zero = go (requestOf m t) refl
     where
-      on : EndsBehind (h .0) (cut m ts e) → (cut m ts e .ending .outcome ≡ done) ⊎ (t .at < cut m ts e .ending .place)
-      on (inl d) = inl d
-      on (inr l) = let f = found m size p (h .1) in inr (omega arith)
+      further : EndsBehind (h .0) (cut m ts e) → (cut m ts e .ending .outcome ≡ done) ⊎ (t .at < cut m ts e .ending .place)
+      further (inl d) = inl d
+      further (inr l) = let f = step-found m size p (h .1) in inr (omega arith)
 
       here : (cut m ts e .ending .outcome ≡ done) ⊎ (t .at < cut m ts e .ending .place)
-      here = on (ends-behind m size (h .0) ts e (h .2))
+      here = further (ends-behind m size (h .0) ts e (h .2))
 
       go : (r : Request) → requestOf m t ≡ r → CutAt m t (cutBy r t (cut m ts e)) (getD (cutBy r t (cut m ts e) .requests) zero passed)
-      go passed q = before (sym q) (λ s. true≢false cc) here
-      go short q = behind refl (λ d. omega arith) (omega arith)
-      go (asks k request) q = before (sym q) (λ s. true≢false cc) here
+      go passed q = cut-before (sym q) (λ s. true≢false cc) here
+      go short q = cut-behind refl (λ d. omega arith) (omega arith)
+      go (asks k request) q = cut-before (sym q) (λ s. true≢false cc) here
   cut-at p (t ∷ ts) e h (suc i) = go (requestOf m t) (cut-at (h .0) ts e (h .2) i) (tag-later m size (h .0) ts e (h .2) i)
     where
       stopped-before : (h .0 ≤ getD ts i noTag .at) ⊎ (getD ts i noTag ≡ noTag)
           → CutAt m (getD ts i noTag) (cutBy short t (cut m ts e)) (getD (cutBy short t (cut m ts e) .requests) (suc i) passed)
-      stopped-before (inl l) = let f = found m size p (h .1) in behind refl (λ d. omega arith) (omega arith)
-      stopped-before (inr q) = nowhere refl q
+      stopped-before (inl l) = let f = step-found m size p (h .1) in cut-behind refl (λ d. omega arith) (omega arith)
+      stopped-before (inr q) = cut-none refl q
 
       go : (r : Request) → CutAt m (getD ts i noTag) (cut m ts e) (getD (cut m ts e .requests) i passed)
           → (h .0 ≤ getD ts i noTag .at) ⊎ (getD ts i noTag ≡ noTag)
           → CutAt m (getD ts i noTag) (cutBy r t (cut m ts e)) (getD (cutBy r t (cut m ts e) .requests) (suc i) passed)
-      go passed (before q s o) l = before q s o
-      go passed (behind q n o) l = behind q n o
-      go passed (nowhere q z) l = nowhere q z
+      go passed (cut-before q s o) l = cut-before q s o
+      go passed (cut-behind q n o) l = cut-behind q n o
+      go passed (cut-none q z) l = cut-none q z
       go short k l = stopped-before l
-      go (asks j request) (before q s o) l = before q s o
-      go (asks j request) (behind q n o) l = behind q n o
-      go (asks j request) (nowhere q z) l = nowhere q z
+      go (asks j request) (cut-before q s o) l = cut-before q s o
+      go (asks j request) (cut-behind q n o) l = cut-behind q n o
+      go (asks j request) (cut-none q z) l = cut-none q z

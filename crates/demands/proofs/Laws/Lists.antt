@@ -8,7 +8,7 @@ use Rattle.words.specs.Numbers.{word}
 use Rattle.words.specs.Put.{zeros}
 use Rattle.message.proofs.Laws.Opening.{opened-good}
 use Rattle.message.proofs.Laws.Steps.{step-end}
-use Rattle.message.proofs.Laws.Walks.{walk-tag, walk-stop}
+use Rattle.message.proofs.Laws.WalkFrom.{walk-tag, walk-stop}
 use Rattle.message.specs.Lister.{listed, listedOf, unlisted, nth}
 use Rattle.message.specs.Outcomes.{done, noSuchTag}
 use Rattle.message.specs.Sizes.{header, tagHeader}

@@ -12,13 +12,13 @@ use Rattle.words.proofs.Laws.Agree.{part-before}
 use Rattle.message.proofs.Laws.Follows.{Follows, follows-same}
 use Rattle.message.proofs.Laws.Found.{Nth}
 use Rattle.message.proofs.Laws.Reader.{judged-fewer, judged-done}
-use Rattle.message.proofs.Laws.Steps.{found}
+use Rattle.message.proofs.Laws.Steps.{step-found}
 use Rattle.message.specs.Outcomes.{done, fewerStored}
 use Rattle.message.specs.Reader.{unread, keptTag, withId, judged, answerLength, stored}
 use Rattle.message.specs.Sizes.{tagHeader}
 use Rattle.message.specs.declared.walk.Ending.{Ending}
 use Rattle.message.specs.declared.walk.Tag.{Tag}
-use Rattle.answers.specs.Reply.{answered}
+use Rattle.answers.specs.Writing.{answered}
 use Rattle.responder.specs.Reply.{writeAll}
 use Rattle.responder.specs.Turns.{Said, silent, says}
 use Rattle.responder.proofs.Laws.Written.{answered-length, answered-behind, answered-value, writes-before}
@@ -86,7 +86,7 @@ value-written m size p (t ∷ ts) [] e h l i b a k q = silent-says a
 value-written m size p (t ∷ ts) (silent ∷ ss) e h l zero b a k q = silent-says a
 value-written m size p (t ∷ ts) (silent ∷ ss) e h l (suc i) b a k q = value-written m size (h .0) ts ss e (h .2) l i (omega arith) a k q
 value-written m size p (t ∷ ts) (says x ∷ ss) e h l zero b {answer} a k q =
-    let f = found m size p (h .1) in
+    let f = step-found m size p (h .1) in
     let is : x ≡ answer = cc in
     let m₁ = answered (t .at) (t .size) x m in
     let rest = follows-same m m₁ size (h .0) ts e (sym (answered-behind (t .at) (t .size) x m (h .0) (omega arith))) (h .2) in
@@ -99,7 +99,7 @@ value-written m size p (t ∷ ts) (says x ∷ ss) e h l zero b {answer} a k q =
     ∙ take-take k (t .size) x (omega arith)
     ∙ ap (take k) is
 value-written m size p (t ∷ ts) (says x ∷ ss) e h l (suc i) b a k q =
-    let f = found m size p (h .1) in
+    let f = step-found m size p (h .1) in
     let m₁ = answered (t .at) (t .size) x m in
     let rest = follows-same m m₁ size (h .0) ts e (sym (answered-behind (t .at) (t .size) x m (h .0) (omega arith))) (h .2) in
     let n = answered-length (t .at) (t .size) x m in

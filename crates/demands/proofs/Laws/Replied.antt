@@ -16,22 +16,22 @@ use Rattle.message.specs.declared.opening.Message.{Message}
 use Rattle.message.specs.declared.opening.Opened.{Opened}
 use Rattle.board.specs.Record.{valid}
 use Rattle.board.specs.declared.record.Board.{Board}
-use Rattle.requests.specs.Requests.{Walks}
+use Rattle.requests.specs.Requests.{WalkOutcome}
 use Rattle.responder.specs.Reply.{served, reply}
 use Rattle.demands.specs.Changes.{Refusal}
 
 -- no walk ends as a refusal does
-apart : (n x : ℕ) → n ≡ x → (x ≡ tooFewLent → ⊥) → (x ≡ badSize → ⊥) → (x ≡ notRequest → ⊥) → (x ≡ invalidBoard → ⊥) → Refusal n → ⊥
-apart n x e a b c d (inl z) = a (sym e ∙ z)
-apart n x e a b c d (inr (inl z)) = b (sym e ∙ z)
-apart n x e a b c d (inr (inr (inl z))) = c (sym e ∙ z)
-apart n x e a b c d (inr (inr (inr z))) = d (sym e ∙ z)
+not-refusal : (n x : ℕ) → n ≡ x → (x ≡ tooFewLent → ⊥) → (x ≡ badSize → ⊥) → (x ≡ notRequest → ⊥) → (x ≡ invalidBoard → ⊥) → Refusal n → ⊥
+not-refusal n x e a b c d (inl z) = a (sym e ∙ z)
+not-refusal n x e a b c d (inr (inl z)) = b (sym e ∙ z)
+not-refusal n x e a b c d (inr (inr (inl z))) = c (sym e ∙ z)
+not-refusal n x e a b c d (inr (inr (inr z))) = d (sym e ∙ z)
 
-pub clash : (n : ℕ) → Walks n → Refusal n → ⊥
-clash n (inl z) = apart n done z (λ e. omega arith) (λ e. omega arith) (λ e. omega arith) (λ e. omega arith)
-clash n (inr (inl z)) = apart n noEnd z (λ e. omega arith) (λ e. omega arith) (λ e. omega arith) (λ e. omega arith)
-clash n (inr (inr (inl z))) = apart n runsOver z (λ e. omega arith) (λ e. omega arith) (λ e. omega arith) (λ e. omega arith)
-clash n (inr (inr (inr z))) = apart n shortRequest z (λ e. omega arith) (λ e. omega arith) (λ e. omega arith) (λ e. omega arith)
+pub clash : (n : ℕ) → WalkOutcome n → Refusal n → ⊥
+clash n (inl z) = not-refusal n done z (λ e. omega arith) (λ e. omega arith) (λ e. omega arith) (λ e. omega arith)
+clash n (inr (inl z)) = not-refusal n noEnd z (λ e. omega arith) (λ e. omega arith) (λ e. omega arith) (λ e. omega arith)
+clash n (inr (inr (inl z))) = not-refusal n runsOver z (λ e. omega arith) (λ e. omega arith) (λ e. omega arith) (λ e. omega arith)
+clash n (inr (inr (inr z))) = not-refusal n shortRequest z (λ e. omega arith) (λ e. omega arith) (λ e. omega arith) (λ e. omega arith)
 
 pub data Replied (b : Board) (m : List ℕ) : Type 0 where
   untouched : Refusal (reply b m .answer .outcome) → reply b m .bytes ≡ m → reply b m .answer .board ≡ b → reply b m .answer .place ≡ 0 → Replied b m

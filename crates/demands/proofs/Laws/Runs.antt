@@ -12,7 +12,7 @@ use Rattle.words.proofs.Laws.Put.{length-put, drop-put, take-put, read-put, num
 use Rattle.words.specs.Numbers.{le, word}
 use Rattle.words.specs.Put.{put, zeros}
 use Rattle.message.proofs.Laws.Builder.{GoodCursor, taken, finish-taken, Closed}
-use Rattle.message.proofs.Laws.Built.{add-refused, add-done, finish-done, accepted}
+use Rattle.message.proofs.Laws.Built.{add-refused, add-done, finish-done, finish-accepted}
 use Rattle.message.proofs.Laws.Opening.{GoodSize}
 use Rattle.message.specs.Builder.{Call, added, room, goodCursor, startOutcome, addOutcome, startedIf, started, finished, closed, finishedSize}
 use Rattle.message.specs.Outcomes.{done, noRoom}
@@ -82,51 +82,51 @@ cursor-good : (at room : ℕ) → GoodCursor at room → goodCursor at room ≡ 
 unfolding goodCursor
 cursor-good at room g =
     and-eq-true-iff (leb header at && eqb (at % 4) 0) (leb at room) .1
-    (and-eq-true-iff (leb header at) (eqb (at % 4) 0) .1 (le-leb _ _ (g .first), eq-eqb _ _ (g .fours)), le-leb _ _ (g .within))
+    (and-eq-true-iff (leb header at) (eqb (at % 4) 0) .1 (le-leb _ _ (g .from-header), eq-eqb _ _ (g .fours)), le-leb _ _ (g .within))
 
-pub start-open : (m : List ℕ) → started m .outcome ≡ done → Closed (length m) header
+pub start-can-finish : (m : List ℕ) → started m .outcome ≡ done → Closed (length m) header
 unfolding started startOutcome
-start-open m e = go (ltb (room (length m)) (finishedSize header)) refl e
+start-can-finish m e = go (ltb (room (length m)) (finishedSize header)) refl e
   where
     go : (b : Bool) → ltb (room (length m)) (finishedSize header) ≡ b → startedIf (eqb (cond b noRoom done) done) (cond b noRoom done) .outcome ≡ done
         → Closed (length m) header
     go true l q = absurd (omega arith)
     go false l q =
         let f : finishedSize header ≤ room (length m) = ltb-false _ _ l in
-        record { cursor = record { first = omega arith; fours = refl; within = omega arith }; fits = f }
+        record { cursor = record { from-header = omega arith; fours = refl; within = omega arith }; fits = f }
 
-abbrev Open : Run → Type 0
-Open r = Closed (length (r .bytes)) (r .cursor .at)
+abbrev CanFinish : Run → Type 0
+CanFinish r = Closed (length (r .bytes)) (r .cursor .at)
 
-kept-open : (b : Bool) (a : Add) (r : Run) → Open r → Open (keptIf b a r)
-kept-open true a r h = h
-kept-open false a r h = h
+kept-can-finish : (b : Bool) (a : Add) (r : Run) → CanFinish r → CanFinish (keptIf b a r)
+kept-can-finish true a r h = h
+kept-can-finish false a r h = h
 
-pub run-open : (adds : List Add) (m : List ℕ) (c : Cursor) → Closed (length m) (c .at) → Open (addAll adds m c)
+pub run-can-finish : (adds : List Add) (m : List ℕ) (c : Cursor) → Closed (length m) (c .at) → CanFinish (addAll adds m c)
 unfolding outcome m₁ c₁
-run-open [] m c h = h
-run-open (a ∷ adds) m c h =
-    go (eqb (outcome m c a adds) done) refl (run-open adds m c h) (λ k. run-open adds (m₁ m c a adds) (c₁ m c a adds) k)
+run-can-finish [] m c h = h
+run-can-finish (a ∷ adds) m c h =
+    go (eqb (outcome m c a adds) done) refl (run-can-finish adds m c h) (λ k. run-can-finish adds (m₁ m c a adds) (c₁ m c a adds) k)
   where
-    step : {call : Call Built} → call ≡ added m c (a .id) (a .size) (a .request) → Open (addAll adds (call .bytes) (call .answer .cursor))
-        → Open (addAll (a ∷ adds) m c)
-    step {call} e r =
-        subst (λ (x : Call Built). Open (onward a adds x)) e (kept-open (eqb (call .answer .outcome) done) a (addAll adds (call .bytes)
+    behind-call : {call : Call Built} → call ≡ added m c (a .id) (a .size) (a .request) → CanFinish (addAll adds (call .bytes) (call .answer .cursor))
+        → CanFinish (addAll (a ∷ adds) m c)
+    behind-call {call} e r =
+        subst (λ (x : Call Built). CanFinish (onward a adds x)) e (kept-can-finish (eqb (call .answer .outcome) done) a (addAll adds (call .bytes)
         (call .answer .cursor)) r)
 
-    go : (b : Bool) → eqb (outcome m c a adds) done ≡ b → Open (addAll adds m c)
-        → (Closed (length (m₁ m c a adds)) (c₁ m c a adds .at) → Open (addAll adds (m₁ m c a adds) (c₁ m c a adds))) → Open (addAll (a ∷ adds) m c)
+    go : (b : Bool) → eqb (outcome m c a adds) done ≡ b → CanFinish (addAll adds m c)
+        → (Closed (length (m₁ m c a adds)) (c₁ m c a adds .at) → CanFinish (addAll adds (m₁ m c a adds) (c₁ m c a adds))) → CanFinish (addAll (a ∷ adds) m c)
     go true e r k =
         let z = eqb-true (outcome m c a adds) done e in
         let t = taken (length m) (c .at) (a .id) (a .size) (length (a .request)) z in
         let l = length-put (c .at) (addBytes a) m in
         let o : Closed (length (put (c .at) (addBytes a) m)) (tagEnd (c .at) (a .size)) =
-        rw l (record { cursor = record { first = omega arith; fours = omega arith; within = omega arith }; fits = t .fits }) in
-        step (add-done m c (a .id) (a .size) (a .request) {j = outcome m c a adds} refl z refl refl) (k o)
-    go false e r k = step (add-refused m c (a .id) (a .size) (a .request) {j = outcome m c a adds} refl (eqb-false (outcome m c a adds) done e)) r
+        rw l (record { cursor = record { from-header = omega arith; fours = omega arith; within = omega arith }; fits = t .fits }) in
+        behind-call (add-done m c (a .id) (a .size) (a .request) {j = outcome m c a adds} refl z refl refl) (k o)
+    go false e r k = behind-call (add-refused m c (a .id) (a .size) (a .request) {j = outcome m c a adds} refl (eqb-false (outcome m c a adds) done e)) r
 
-pub finish-open : (m : List ℕ) (c : Cursor) → Closed (length m) (c .at) → finished m c .answer .outcome ≡ done
-finish-open m c h =
+pub finish-taken-there : (m : List ℕ) (c : Cursor) → Closed (length m) (c .at) → finished m c .answer .outcome ≡ done
+finish-taken-there m c h =
     sym (ap (λ (x : Call Finished). x .answer .outcome)
     (finish-done m c (finish-taken (length m) (c .at) refl refl (cursor-good (c .at) (room (length m)) (h .cursor)) refl (h .fits)) refl refl refl))
 
@@ -137,11 +137,11 @@ pub record Whole (m : List ℕ) (c : ℕ) (adds : List Add) : Type 0 where
   pub inside : c < word m 0
   pub end : word m c ≡ 0
 
-pub whole : (m : List ℕ) (c : Cursor) (adds : List Add) → Holds m header adds (c .at) → finished m c .answer .outcome ≡ done
+pub finished-whole : (m : List ℕ) (c : Cursor) (adds : List Add) → Holds m header adds (c .at) → finished m c .answer .outcome ≡ done
     → Whole (finished m c .bytes) (c .at) adds
 unfolding closed
-whole m c adds h e =
-    let a = accepted m c e in
+finished-whole m c adds h e =
+    let a = finish-accepted m c e in
     let at = c .at in
     let size = finishedSize at in
     let k = size - (at + endWord) in

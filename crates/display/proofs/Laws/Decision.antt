@@ -49,7 +49,7 @@ module _ (d : Display) (o : Operation) where
   -- ---- where it places its buffer
   pub record Room : Type 0 where
     pub aligned : oneBit (o .alignment) ≡ true
-    pub first : d .region .base ≤ roundUp (o .alignment) (d .region .base)
+    pub from-base : d .region .base ≤ roundUp (o .alignment) (d .region .base)
     pub last : roundUp (o .alignment) (d .region .base) + need (o .proposal) ≤ d .region .base + d .region .size
 
   allocatable-is : allocatable d o ≡ true → Room
@@ -57,7 +57,7 @@ module _ (d : Display) (o : Operation) where
   allocatable-is e =
       let base : ℕ = roundUp (o .alignment) (d .region .base) in
       let both = and-eq-true-iff (oneBit (o .alignment)) (leb (base + need (o .proposal)) (d .region .base + d .region .size)) .0 e in
-      record { aligned = both .0; first = up-above _ _ (one-bit-least _ (both .0)); last = leb-true _ _ (both .1) }
+      record { aligned = both .0; from-base = up-above _ _ (one-bit-least _ (both .0)); last = leb-true _ _ (both .1) }
 
   pub accepted-placed : accepted d o ≡ true → o .allocates ≡ true → Room
   accepted-placed e a = allocatable-is (sym (ap (λ (b : Bool). cond b (allocatable d o) (fitsBuffer d o)) a) ∙ accepted-room e)

@@ -4,7 +4,7 @@ use mathlib.Core.List.{List}
 use mathlib.Core.Path.{_≡_, sym, ap, _∙_}
 use Prim.Native.Nat.{ℕ}
 use Rattle.table.specs.declared.kinds.FrameTag.{FrameTag}
-use Rattle.answers.specs.Reply.{answered}
+use Rattle.answers.specs.Writing.{answered}
 use Rattle.display.specs.Decision.{groupAnswer}
 use Rattle.display.specs.GroupPut.{FramePut, GroupPut}
 use Rattle.display.specs.declared.decision.Decision.{Decision}

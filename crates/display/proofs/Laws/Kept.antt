@@ -31,7 +31,7 @@ module _ (d : Display) (o : Operation) (v : validDisplay d ≡ true) where
     placed-valid a =
         let room = accepted-placed d o e a in
         let least = need-least (o .proposal) (accepted-possible d o e) in
-        buffer-valid _ _ _ (λ z. omega arith) (record { first = room .first; last = room .last; enough = omega arith })
+        buffer-valid _ _ _ (λ z. omega arith) (record { from-base = room .from-base; last = room .last; enough = omega arith })
 
     kept-valid : o .allocates ≡ false → o .releases ≡ false → (d .buffer .size ≡ 0) ⊎ (0 < d .buffer .size)
         → validBuffer (d .region) (need (o .proposal)) (d .buffer) ≡ true
@@ -40,7 +40,7 @@ module _ (d : Display) (o : Operation) (v : validDisplay d ≡ true) where
         let stands : d .buffer .size ≡ 0 → ⊥ = λ z. omega arith in
         let inside = buffer-stands _ _ _ stands (display-parts d v .buffer) in
         buffer-valid _ _ _ stands
-        (record { first = inside .first; last = inside .last; enough = leb-true _ _ (one-stands d o stands r ∙ accepted-fits d o e a) })
+        (record { from-base = inside .from-base; last = inside .last; enough = leb-true _ _ (one-stands d o stands r ∙ accepted-fits d o e a) })
 
     after-valid : (allocates releases : Bool) → o .allocates ≡ allocates → o .releases ≡ releases
         → validBuffer (d .region) (need (o .proposal)) (bufferAfter allocates releases d o) ≡ true

@@ -52,10 +52,10 @@ request-within m t {k} {request} e = go (isAnswered t) (rowOf (t .id)) e
   where
     here : (k′ : Kind) (n : ℕ) → request ≡ requestBytes k′ n (t .size) (valueOf m t) → InValue m t request
     here k′ n q =
-        let first = q ∙ request-first k′ n (t .size) (valueOf m t) ∙ ap (λ (x : List ℕ). take (length x) (valueOf m t)) (sym q) in
+        let begins-value = q ∙ request-first k′ n (t .size) (valueOf m t) ∙ ap (λ (x : List ℕ). take (length x) (valueOf m t)) (sym q) in
         let of-value = length-take (t .size) (drop (t .at + tagHeader) m) in
-        let l : length request ≤ t .size = omega (arith, ap length first, length-take (length request) (valueOf m t), of-value) in
-        record { fits = l; is = sym (first ∙ take-take (length request) (t .size) (drop (t .at + tagHeader) m) l) }
+        let l : length request ≤ t .size = omega (arith, ap length begins-value, length-take (length request) (valueOf m t), of-value) in
+        record { fits = l; is = sym (begins-value ∙ take-take (length request) (t .size) (drop (t .at + tagHeader) m) l) }
 
     sized : (k′ : Kind) (n : ℕ) (c : Bool) → cond c short (asks k′ (requestBytes k′ n (t .size) (valueOf m t))) ≡ asks k request → InValue m t request
     sized k′ n true q = absurd (true≢false cc)

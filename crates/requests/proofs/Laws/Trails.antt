@@ -8,10 +8,10 @@ use denote.Enum.Declared.{tagOf}
 use types.Run.{OneOf}
 use lib.ListN.{length, take, drop}
 use Rattle.words.proofs.Laws.Agree.{drop-later, part-before}
-use Rattle.message.proofs.Laws.Bounds.{Inside, walk-inside}
+use Rattle.message.proofs.Laws.Bounds.{EndWithin, walk-inside}
 use Rattle.message.proofs.Laws.Follows.{Follows, follows, follows-walk, follows-same}
-use Rattle.message.proofs.Laws.Steps.{Found, found, step-same}
-use Rattle.message.proofs.Laws.Walks.{no-tag, walk-tag, walk-stop}
+use Rattle.message.proofs.Laws.Steps.{StepFound, step-found, step-same}
+use Rattle.message.proofs.Laws.WalkFrom.{no-tag, walk-tag, walk-stop}
 use Rattle.message.proofs.walk.Step
 use Rattle.message.specs.Sizes.{tagHeader}
 use Rattle.message.specs.Helpers.{Walking, InMessage}
@@ -44,7 +44,7 @@ cut-on short t rest n = absurd (n refl)
 cut-on (asks k request) t rest n = refl
 
 -- a tag that was found lies in the message
-pub in-message : (m : List ℕ) (size p : ℕ) {t : Tag} {next : ℕ} → Walking m size p → Found m size p t next → InMessage (length m) (t .at) (t .size)
+pub in-message : (m : List ℕ) (size p : ℕ) {t : Tag} {next : ℕ} → Walking m size p → StepFound m size p t next → InMessage (length m) (t .at) (t .size)
 in-message m size p w f = record { within = omega arith; place = omega arith }
 
 -- a trail reads only what stands from its place on
@@ -54,7 +54,7 @@ trail-same m m′ size p [] e h d =
     ap (λ (w : Walk). cut m (w .tags) (w .ending)) (follows-walk m size p [] e h)
     ∙ ap (λ (w : Walk). cut m′ (w .tags) (w .ending)) (sym (follows-walk m′ size p [] e (follows-same m m′ size p [] e d h)))
 trail-same m m′ size p (t ∷ ts) e h d =
-    let f = found m size p (h .1) in
+    let f = step-found m size p (h .1) in
     trail-tag m size p (h .1)
     ∙ ap (λ (r : Request). cutBy r t (trail m size (h .0))) (request-same m m′ t (rw (f .at) d))
     ∙ ap (cutBy (requestOf m′ t) t) (trail-same m m′ size (h .0) ts e (h .2) (drop-later p (h .0) m m′ (omega arith) d))
@@ -74,7 +74,7 @@ unfolding requestOf requestBy
 answered-passed m t h = rw (le-leb 0x8000_0000 (t .word) h)
 
 -- it ends within the size
-cut-inside : (m : List ℕ) (size : ℕ) (ts : List Tag) (e : Ending) → Inside size ts → e .place ≤ size → cut m ts e .ending .place ≤ size
+cut-inside : (m : List ℕ) (size : ℕ) (ts : List Tag) (e : Ending) → EndWithin size ts → e .place ≤ size → cut m ts e .ending .place ≤ size
 cut-inside m size [] e s h = h
 cut-inside m size (t ∷ ts) e s h = go (requestOf m t) (cut-inside m size ts e (s .1) h)
   where

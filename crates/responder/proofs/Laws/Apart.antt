@@ -4,7 +4,7 @@ use mathlib.Core.Path.{_≡_, refl, sym, ap, _∙_}
 use Prim.Native.Nat.{ℕ, _+_, _≤_}
 use native.Mathlib.Omega.{arith}
 use Rattle.message.proofs.Laws.Follows.{Follows, follows-same}
-use Rattle.message.proofs.Laws.Steps.{found}
+use Rattle.message.proofs.Laws.Steps.{step-found}
 use Rattle.message.specs.Sizes.{tagHeader}
 use Rattle.message.specs.declared.walk.Ending.{Ending}
 use Rattle.message.specs.declared.walk.Tag.{Tag}
@@ -25,7 +25,7 @@ pub writes-apart : (t : Tag) (s : Said) (m : List ℕ) (size p : ℕ) (ts : List
 writes-apart t s m size p [] ss e l h = refl
 writes-apart t s m size p (u ∷ us) [] e l h = refl
 writes-apart t s m size p (u ∷ us) (v ∷ vs) e l h =
-    let f = found m size p (h .1) in
+    let f = step-found m size p (h .1) in
     ap (writeAll us vs) (written-apart t u s v m (omega arith))
     ∙ writes-apart t s (written u v m) size (h .0) us vs e (omega arith) (follows-same m (written u v m) size (h .0) us e (sym (written-behind u v m
     (h .0) (omega arith))) (h .2))

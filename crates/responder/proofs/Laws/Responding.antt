@@ -90,12 +90,12 @@ module _ (b : Board) (m : List ℕ) (size : ℕ) (w : Walking m size header) whe
     bytes-are : m₂ ≡ trailWritten (turnOf g) b tr m
     bytes-are = e₂ ∙ either (g .answered) refl
       where
-        first : m₁ ≡ trailWritten (turnOf g₀) b tr m
-        first = ap (λ (x : Call TagsServed). x .bytes) e₁
+        first-walk : m₁ ≡ trailWritten (turnOf g₀) b tr m
+        first-walk = ap (λ (x : Call TagsServed). x .bytes) e₁
 
         either : (y : Bool) → g .answered ≡ y → cond y (trailWritten (turnOf g) (r .board) (trail m₁ size header) m₁) m₁ ≡ trailWritten (turnOf g) b tr m
-        either true y = twice (turnOf g₀) (turnOf g) (two-walks g₀ g quiet) size m b (r .board) (w .lent) first
-        either false n = first ∙ ap (λ (ss : List Said). writeAll (tr .tags) ss m) (answers-unanswered g₀ g quiet n b (tr .requests))
+        either true y = twice (turnOf g₀) (turnOf g) (two-walks g₀ g quiet) size m b (r .board) (w .lent) first-walk
+        either false n = first-walk ∙ ap (λ (ss : List Said). writeAll (tr .tags) ss m) (answers-unanswered g₀ g quiet n b (tr .requests))
 
     pub served-is : {code : ℕ} → code ≡ codeOf (r .ending .outcome) → {m₃ : List ℕ} → m₃ ≡ put codePlace (le 4 code) m₂
         → leaves m₃ (record { outcome = r .ending .outcome; place = r .ending .place; board = withDisplay (r .board) (g .display) }) ≡ served b m size

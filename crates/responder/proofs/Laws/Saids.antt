@@ -6,9 +6,9 @@ use Prim.Native.Nat.{_^_, _<_}
 use lib.ListN.{length}
 use Rattle.board.specs.declared.record.Board.{Board}
 use Rattle.table.specs.declared.kinds.Kind.{Kind}
-use Rattle.tags.proofs.Laws.Lengths.{outside-fits}
+use Rattle.tags.proofs.Laws.AnswerFits.{outside-fits}
 use Rattle.tags.specs.Outside.{outsideAnswer}
-use Rattle.display.proofs.Laws.Lengths.{group-fits}
+use Rattle.display.proofs.Laws.AnswerFits.{group-fits}
 use Rattle.display.specs.Decision.{groupAnswer}
 use Rattle.display.specs.declared.decision.Decision.{Decision}
 use Rattle.requests.specs.Requests.{Request, passed, short, asks}

@@ -8,7 +8,7 @@ use denote.Enum.Declared.{tagOf}
 use types.Run.{OneOf}
 use lib.ListN.{length, take, drop}
 use Rattle.words.proofs.Laws.Agree.{drop-later}
-use Rattle.message.proofs.Laws.Steps.{Found, found, walking-on, step-same}
+use Rattle.message.proofs.Laws.Steps.{StepFound, step-found, walking-on, step-same}
 use Rattle.message.proofs.walk.Step
 use Rattle.message.specs.Builder.{leaves}
 use Rattle.message.specs.Outcomes.{shortRequest}
@@ -22,8 +22,8 @@ use Rattle.board.specs.declared.record.Board.{Board}
 use Rattle.table.specs.declared.kinds.FrameTag.{FrameTag}
 use Rattle.table.specs.declared.kinds.Kind.{Kind}
 use Rattle.table.specs.declared.kinds.OutsideTag.{OutsideTag}
-use Rattle.answers.specs.Reply.{answered}
-use Rattle.tags.proofs.Laws.Served.{Serves}
+use Rattle.answers.specs.Writing.{answered}
+use Rattle.tags.proofs.Laws.ServesOutside.{Serves}
 use Rattle.display.specs.Decision.{groupAnswer}
 use Rattle.display.specs.Operation.{unasked, noted}
 use Rattle.display.specs.GroupPut.{GroupPut}
@@ -91,8 +91,8 @@ module _ (g : Decision) (m₀ : List ℕ) (size : ℕ) (b₀ : Board) (m : List 
   serve-stop k ee = ends-here (trail-stop m₀ size p st k es₀ ∙ ap ends (sym ee))
 
   module _ {t : Tag} {next : ℕ} (et : st ≡ Step.Tag t next) where
-    here : Found m size p t next
-    here = found m size p (sym es ∙ et)
+    here : StepFound m size p t next
+    here = step-found m size p (sym es ∙ et)
 
     pub serve-less : size - next < size - p
     serve-less = let f = here in let w = h .walking in omega arith

@@ -7,7 +7,7 @@ use native.Mathlib.Omega.{arith}
 use lib.ListN.{length}
 use Rattle.words.specs.Numbers.{word}
 use Rattle.message.proofs.Laws.Follows.{Follows, follows, follows-walk, follows-same}
-use Rattle.message.proofs.Laws.Steps.{found}
+use Rattle.message.proofs.Laws.Steps.{step-found}
 use Rattle.message.specs.Sizes.{header}
 use Rattle.message.specs.Walk.{Walk, wordPlace, tagAt, step, walkFrom}
 use Rattle.message.specs.declared.walk.Ending.{Ending}
@@ -50,7 +50,7 @@ module _ {S : Type 0} (turn₀ turn : S → Request → Turn S) (two : TwoWalks 
     -- the trail behind the tag, with what the tag says written
     behind : (v : Said) → trail m size q ≡ trail (written t v m) size q
     behind v =
-        let f = found m size p st in
+        let f = step-found m size p st in
         trail-behind m (written t v m) size q (sym (written-behind t v m q (omega arith)))
 
     -- a tag that is passed over in the second walk: it said in the first what it says in one
@@ -80,23 +80,23 @@ module _ {S : Type 0} (turn₀ turn : S → Request → Turn S) (two : TwoWalks 
     module _ (ss : List Said) where
       kept-step : step (writeAll ts ss m) size p ≡ Step.Tag t q
       unfolding tagAt
-      kept-step = let f = found m size p st in reworded m size p t q silent ts ss e st rest l (sym (ap (λ (x : Tag). x .word) (f .is)))
+      kept-step = let f = step-found m size p st in reworded m size p t q silent ts ss e st rest l (sym (ap (λ (x : Tag). x .word) (f .is)))
 
       kept-request : requestOf (writeAll ts ss m) t ≡ requestOf m t
-      kept-request = let f = found m size p st in request-before (writeAll ts ss m) m t q (omega arith) (writes-before m size q ts ss e rest)
+      kept-request = let f = step-found m size p st in request-before (writeAll ts ss m) m t q (omega arith) (writes-before m size q ts ss e rest)
 
     -- ---- one tag, the others behind it
     module _ (ih : (m′ : List ℕ) (s s₁ : S) → Follows m′ size q ts e → size ≤ length m′ → Goal ts s s₁ q (trail m′ size q) m′) (s s₁ : S) where
       next : (v : Said) (s′ s₁′ : S) → Goal ts s′ s₁′ q (trail (written t v m) size q) (written t v m)
       next v s′ s₁′ =
-          let f = found m size p st in
+          let f = step-found m size p st in
           let n = written-length t v m in
           ih (written t v m) s′ s₁′ (follows-same m (written t v m) size q ts e (sym (written-behind t v m q (omega arith))) rest) (omega arith)
 
       -- a tag outside the group is answered by then
       outside : (k : OutsideTag) (request : List ℕ) → Goal (t ∷ ts) s s₁ p (goesOn t (asks (Kind.Outside k) request) (trail m size q)) m
       outside k request =
-          let f = found m size p st in
+          let f = step-found m size p st in
           let r = asks (Kind.Outside k) request in
           let a = two .answer s k request in
           let w : word (written t (says a) m) (p + wordPlace) ≡ 0x8000_0000 + length a =
@@ -111,7 +111,7 @@ module _ {S : Type 0} (turn₀ turn : S → Request → Turn S) (two : TwoWalks 
       group : {k : FrameTag} {request : List ℕ} → requestOf m t ≡ asks (Kind.Group k) request
           → Goal (t ∷ ts) s s₁ p (goesOn t (asks (Kind.Group k) request) (trail m size q)) m
       group {k} {request} er =
-          let f = found m size p st in
+          let f = step-found m size p st in
           let r = asks (Kind.Group k) request in
           let s′ = turn₀ s r .state in
           let s₁′ = turn s₁ r .state in

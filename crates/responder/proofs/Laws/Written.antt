@@ -9,13 +9,13 @@ use Rattle.words.proofs.Laws.Put.{length-put, drop-put, take-put, read-put, num
 use Rattle.words.specs.Numbers.{le, word}
 use Rattle.words.specs.Put.{put}
 use Rattle.message.proofs.Laws.Follows.{Follows, follows-same}
-use Rattle.message.proofs.Laws.Steps.{found, step-tag, tag-named}
+use Rattle.message.proofs.Laws.Steps.{step-found, step-tag, tag-named}
 use Rattle.message.specs.Sizes.{tagHeader}
 use Rattle.message.specs.Walk.{sizePlace, wordPlace, tagAt, step}
 use Rattle.message.specs.declared.walk.Ending.{Ending}
 use Rattle.message.specs.declared.walk.Step.{Step}
 use Rattle.message.specs.declared.walk.Tag.{Tag}
-use Rattle.answers.specs.Reply.{answered}
+use Rattle.answers.specs.Writing.{answered}
 use Rattle.requests.specs.Requests.{Request, passed, short, asks, requestOf, cutBy, cut}
 use Rattle.responder.specs.Reply.{written, writeAll}
 use Rattle.responder.specs.Turns.{Said, silent, says, Turn, turns}
@@ -83,7 +83,7 @@ pub writes-before : (m : List ℕ) (size p : ℕ) (ts : List Tag) (ss : List Sai
 writes-before m size p [] ss e h = refl
 writes-before m size p (t ∷ ts) [] e h = refl
 writes-before m size p (t ∷ ts) (s ∷ ss) e h =
-    let f = found m size p (h .1) in
+    let f = step-found m size p (h .1) in
     let m₁ = written t s m in
     let rest = follows-same m m₁ size (h .0) ts e (sym (written-behind t s m (h .0) (omega arith))) (h .2) in
     take-earlier p (h .0) (writeAll ts ss m₁) m₁ (omega arith) (writes-before m₁ size (h .0) ts ss e rest) ∙ written-before t s m p (omega arith)
@@ -94,7 +94,7 @@ step-reworded : (m m′ : List ℕ) (size p : ℕ) {t : Tag} {next w : ℕ} → 
     → step m′ size p ≡ Step.Tag (record { at = t .at; id = t .id; size = t .size; word = w }) next
 unfolding tagAt
 step-reworded m m′ size p {t} {next} {w} e ei es ew =
-    let f = found m size p e in
+    let f = step-found m size p e in
     let id : t .id ≡ word m p = ap (λ (x : Tag). x .id) (f .is) in
     let size-is : t .size ≡ word m (p + sizePlace) = ap (λ (x : Tag). x .size) (f .is) in
     let n = f .next-is in
@@ -112,26 +112,26 @@ module _ (m : List ℕ) (size p : ℕ) (t : Tag) (next : ℕ) (s : Said) (ts : L
   m₂ = writeAll ts ss m₁
 
   pub rest₁ : Follows m₁ size next ts e
-  rest₁ = let f = found m size p h in follows-same m m₁ size next ts e (sym (written-behind t s m next (omega arith))) rest
+  rest₁ = let f = step-found m size p h in follows-same m m₁ size next ts e (sym (written-behind t s m next (omega arith))) rest
 
   before : take next m₂ ≡ take next m₁
   before = writes-before m₁ size next ts ss e rest₁
 
   word-same : (k : ℕ) → k + 4 ≤ wordPlace → word m₂ (p + k) ≡ word m (p + k)
   word-same k b =
-      let f = found m size p h in
+      let f = step-found m size p h in
       number-before 4 (p + k) next m₂ m₁ (omega arith) before ∙ number-before 4 (p + k) (p + wordPlace) m₁ m (omega arith) (written-before t s m
       (p + wordPlace) (omega arith))
 
   id-same : word m₂ p ≡ word m p
   id-same =
-      let f = found m size p h in
+      let f = step-found m size p h in
       number-before 4 p next m₂ m₁ (omega arith) before ∙ number-before 4 p (p + wordPlace) m₁ m (omega arith) (written-before t s m (p + wordPlace)
       (omega arith))
 
   pub reworded : {w : ℕ} → word m₁ (p + wordPlace) ≡ w → step m₂ size p ≡ Step.Tag (record { at = t .at; id = t .id; size = t .size; word = w }) next
   reworded ew =
-      let f = found m size p h in
+      let f = step-found m size p h in
       step-reworded m m₂ size p h id-same (word-same sizePlace (omega arith)) (number-before 4 (p + wordPlace) next m₂ m₁ (omega arith) before ∙ ew)
 
 -- the tags behind a cut say nothing

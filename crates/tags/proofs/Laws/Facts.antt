@@ -6,7 +6,7 @@ use native.Mathlib.Omega.{arith}
 use lib.ListN.{length, take, length-take}
 use Rattle.board.specs.declared.facts.Facts.{Facts}
 use Rattle.table.specs.declared.kinds.FactTag.{FactTag}
-use Rattle.answers.specs.Reply.{answered}
+use Rattle.answers.specs.Writing.{answered}
 use Rattle.tags.specs.Fact.{factAnswer}
 
 -- the command line's bytes, cut to the array and to its length

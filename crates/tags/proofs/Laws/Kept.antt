@@ -4,8 +4,8 @@ use mathlib.Core.List.{List}
 use mathlib.Core.Path.{_≡_}
 use Prim.Native.Nat.{ℕ}
 use lib.ListN.{getD}
-use Rattle.words.proofs.Laws.All.{all-at, all-set}
-use Rattle.words.specs.All.{all}
+use Rattle.words.proofs.Laws.Every.{every-at, every-set}
+use Rattle.words.specs.Every.{every}
 use Rattle.board.proofs.Laws.Items.{no-device-valid, no-clock-valid, no-voltage-valid}
 use Rattle.board.proofs.Laws.Record.{valid-parts, devices-valid, clocks-valid, voltages-valid}
 use Rattle.board.specs.Items.{noDevice, noClock, noVoltage, validDevice, validClock, validVoltage}
@@ -22,12 +22,12 @@ use Rattle.tags.specs.declared.place.Place.{Place}
 
 -- a change that keeps an item valid keeps all valid
 module _ {A : Type 0} (p : A → Bool) (none : A) (n : p none ≡ true) where
-  all-change : (f : A → A) (xs : List A) (at : Place) → ((x : A) → p x ≡ true → p (f x) ≡ true) → all p xs ≡ true → all p (change none f xs at) ≡ true
-  all-change f xs (Place.At i) k h = all-set p xs i (f (getD xs i none)) (k (getD xs i none) (all-at p none xs i n h)) h
+  all-change : (f : A → A) (xs : List A) (at : Place) → ((x : A) → p x ≡ true → p (f x) ≡ true) → every p xs ≡ true → every p (change none f xs at) ≡ true
+  all-change f xs (Place.At i) k h = every-set p xs i (f (getD xs i none)) (k (getD xs i none) (every-at p none xs i n h)) h
   all-change f xs Place.Unlisted k h = h
 
   items-valid : (place : ℕ → Place) (after : ℕ → A → A) → ((x : ℕ) (y : A) → p y ≡ true → p (after x y) ≡ true) → (request : List ℕ) (xs : List A)
-      → all p xs ≡ true → all p (itemsAfter none place after request xs) ≡ true
+      → every p xs ≡ true → every p (itemsAfter none place after request xs) ≡ true
   items-valid place after k request xs = all-change (after (newValue request)) xs (place (idOf request)) (k (newValue request))
 
 pub outside-valid : (k : OutsideTag) (request : List ℕ) (b : Board) → valid b ≡ true → valid (outsideAfter k request b) ≡ true

@@ -1,7 +1,7 @@
 use Prim.Native.Nat.{_-_}
 use native.Mathlib.Omega.{arith}
 use borrow.Author.Needs.{needs}
-use Rattle.tags.proofs.Laws.Served.{within-items, serves-unlisted, serves-fact, serves-power, serves-clock, serves-voltage, serves-temperature}
+use Rattle.tags.proofs.Laws.ServesOutside.{within-items, serves-unlisted, serves-fact, serves-power, serves-clock, serves-voltage, serves-temperature}
 use Rattle.responder.proofs.Laws.Serving.{Ahead, serve-start, serve-stop, serve-less, serve-in, serve-most, serve-short}
 use Rattle.responder.proofs.Laws.Serving.{serve-pass, group-part, serve-group, outside-part, serve-outside}
 use Rattle.responder.proofs.walk.serve_tags.Statement.{statement}
@@ -14,7 +14,7 @@ abbrev μ-loop : tie.MeasureT-loop
 μ-loop msg₀ size group b₀ operation₀ p₀ msg b operation p = size - p
 
 loop-holds : tie.Need-loop-holds Inv-loop μ-loop
-loop-holds c = serve-start _ _ _ _ (c .before .before .before .pre) (c .start .ensures)
+loop-holds c = serve-start _ _ _ _ (c .before .before .before .pre) (c .no-tag-yet .ensures)
 
 returns : tie.Need-returns Inv-loop μ-loop
 returns c =

@@ -28,15 +28,15 @@ mac-returns c =
 line-requires : tie.Need-put-bytes-requires-2
 line-requires c κs =
     let start = c .before .before .before .before .before .before .before in
-    (search needs, line-fits (start .args .f) (start .args .line .now) (c .before .first .ensures) (c .first2 .ensures))
+    (search needs, line-fits (start .args .f) (start .args .line .now) (c .before .prefix .ensures) (c .prefix2 .ensures))
 
 line-returns : tie.Need-returns-8
 line-returns c =
     let arm = c .before .before .before .before .before .before in
     let start = arm .before .before .before .before in
     fact-put _ _ _ _ _ FactTag.Line (arm .enum-told8 .given .1)
-    (line-is (start .args .f) (start .args .line .now) (c .before .before .before .before .first .ensures)
-    (c .before .before .before .first2 .ensures)) (c .before .before .put-bytes2 .ensures)
+    (line-is (start .args .f) (start .args .line .now) (c .before .before .before .before .prefix .ensures)
+    (c .before .before .before .prefix2 .ensures)) (c .before .before .put-bytes2 .ensures)
 
 pub put-fact-spec : {M : Type 1} → statement M
 unfolding factAnswer

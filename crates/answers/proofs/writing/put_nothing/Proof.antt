@@ -1,7 +1,7 @@
 use Rattle.answers.proofs.Laws.Answers.{answered-none}
 use borrow.Author.Needs.{needs}
-use Rattle.answers.proofs.reply.put_nothing.Statement.{statement}
-use Rattle.answers.proofs.reply.put_nothing.Tie as tie
+use Rattle.answers.proofs.writing.put_nothing.Statement.{statement}
+use Rattle.answers.proofs.writing.put_nothing.Tie as tie
 
 add-put-u32 : tie.Need-add-put-u32
 add-put-u32 c = search needs

@@ -16,7 +16,7 @@ ghost use lib.ListN.{length};
 ghost use Rattle.words.specs.Numbers.{le};
 ghost use Rattle.message.specs.Helpers.{InMessage};
 ghost use Rattle.answers.specs.Answer.{twoWords};
-ghost use Rattle.answers.specs.Reply.{answered};
+ghost use Rattle.answers.specs.Writing.{answered};
 
 // Answers the tag with no bytes, whatever the size of its value.
 pub fn put_nothing(msg: &mut [u8], at: usize)
