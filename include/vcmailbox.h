@@ -3,7 +3,7 @@
  * Link with libvcmailbox.a, which `./vc library` builds. Every function here is proved: it gives an
  * outcome for any bytes, any numbers and any record, and reads and writes nothing but what it is lent.
  * A pointer must be valid for the length that follows it, and may be null where that is 0, or be valid for
- * the one number or record it points to; what is lent to be written must overlap nothing else that the same
+ * the one number or struct it points to; what is lent to be written must overlap nothing else that the same
  * call is lent, and a bool of a record must hold 0 or 1. Numbers are given back through uint32_t pointers:
  * no offset or size is above 65,536.
  *
@@ -67,6 +67,22 @@ uint32_t vc_list(const uint8_t *message, size_t length, size_t index, uint32_t *
  * length, and the offset and number of its first `wanted` bytes in the message. */
 uint32_t vc_read(const uint8_t *message, size_t length, uint32_t id, size_t occurrence, size_t wanted,
                  uint32_t *place, uint32_t *answer, uint32_t *value, uint32_t *count);
+
+/* Bytes that lie elsewhere: in a message, or bytes of your own. */
+typedef struct {
+    const uint8_t *bytes;
+    size_t length;
+} vc_bytes;
+
+/* The first `wanted` bytes of the same answer, or a default of your own, to which you set `shown` before each
+ * call. After VC_DONE it shows the bytes where they stand in the message; after a refusal it is as it was.
+ *
+ *     vc_bytes mac = {usual_mac, 6};
+ *     vc_read_or(reply, size, 0x00010003, 0, 6, &mac);
+ *
+ * Nothing is copied: write the message again, and what is shown changes with it. */
+uint32_t vc_read_or(const uint8_t *message, size_t length, uint32_t id, size_t occurrence, size_t wanted,
+                    vc_bytes *shown);
 
 /* ---- the board */
 

@@ -50,3 +50,25 @@ pub fn words_of(bytes: &[u8])
     words_in(bytes);
     text(b"\n");
 }
+
+// A blank and a byte in hexadecimal.
+fn byte(n: u8) {
+    text(b" ");
+    io::print_hex(STDOUT_FILENO, n as u64, 2);
+}
+
+fn bytes_in(bytes: &[u8]) {
+    let mut p = 0;
+    while p < bytes.len() {
+        byte(bytes[p]);
+        p += 1;
+    }
+}
+
+// The bytes of a run, in one line.
+pub fn bytes_of(bytes: &[u8])
+    ensures { λ r. ⌜ r ≡ tt ⌝ }
+{
+    bytes_in(bytes);
+    text(b"\n");
+}

@@ -1,9 +1,9 @@
 -- The offsets, counts and cursors that cross fit 32 bits: none is above the largest message, but for a cursor that a refused add gives back.
 use mathlib.Core.List.{List}
 use mathlib.Core.Path.{_≡_, ap}
-use Prim.Native.Nat.{ℕ, _≤_, _^_, _-_}
+use Prim.Native.Nat.{ℕ, _+_, _≤_, _^_, _-_}
 use native.Mathlib.Omega.{arith}
-use mir.Syntax.{w32}
+use mir.Syntax.{w32, w64}
 use mir.Val.{Fits}
 use Rattle.message.proofs.Laws.Bounds.{listed-inside, start-inside, add-inside, finish-inside}
 use Rattle.message.proofs.Laws.Shown.{InsideReading, found-inside}
@@ -43,6 +43,10 @@ module _ (m : List ℕ) (id n wanted : ℕ) {r : Reading} (e : r ≡ found m id 
 
   pub read-count : Fits w32 (r .count)
   read-count = let k = within .part in inside (ap (λ (x : Reading). x .count) e) (omega arith)
+
+  -- where the part ends, a sum that the code computes in 64 bits
+  pub read-end : Fits w64 (r .value + r .count)
+  read-end = let k = within .part in let q = ap (λ (x : Reading). x .value + x .count) e in record { fits = omega arith }
 
 pub start-cursor : (m : List ℕ) {r : Built} → r ≡ started m → Fits w32 (r .cursor .at)
 start-cursor m e = inside (ap (λ (x : Built). x .cursor .at) e) (start-inside m)

@@ -1,9 +1,10 @@
 // Taking messages apart.
 use message::lister::list;
+use message::outcome;
 use message::reader::read;
 ghost use mathlib.Core.Path.{_≡_};
 ghost use Rattle.message.specs.Lister.{listed};
-ghost use Rattle.message.specs.Reader.{found};
+ghost use Rattle.message.specs.Reader.{found, view, readingOr, foundOr};
 
 // The tag of this index.
 #[no_mangle]
@@ -59,5 +60,26 @@ pub extern "C" fn vc_read(
     *answer = reading.length;
     *value = reading.value as u32;
     *count = reading.count as u32;
+    reading.outcome
+}
+
+// The same bytes, as a part of the message. `shown` comes as the default, and stays so on any refusal.
+#[no_mangle]
+pub extern "C" fn vc_read_or<'a>(
+    message: &'a [u8],
+    id: u32,
+    occurrence: usize,
+    wanted: usize,
+    shown: &mut &'a [u8],
+) -> u32
+    ensures { λ r. ⌜ readingOr r (view (now (shown .exit)))
+        ≡ foundOr (message .entry) id occurrence wanted (now (shown .entry)) ⌝ }
+{
+    let reading = read(message, id, occurrence, wanted);
+    if reading.outcome == outcome::DONE {
+        let start = reading.value;
+        let end = start + reading.count;
+        *shown = &message[start..end];
+    }
     reading.outcome
 }

@@ -20,7 +20,10 @@ pub fn ask(random: &mut Random, calls: &mut Vec<Call>, seen: &[Tag]) {
         calls.push(Call::List { index: perhaps_far(random, index) });
     }
     for _ in 0..random.below(5) {
-        calls.push(read(random, seen));
+        let (id, occurrence, wanted) = reading(random, seen);
+        let default = random.below(12) as usize;
+        calls.push(Call::Read { id, occurrence, wanted });
+        calls.push(Call::ReadOr { id, occurrence, wanted, default });
     }
 }
 
@@ -34,7 +37,8 @@ fn perhaps_far(random: &mut Random, number: usize) -> usize {
     }
 }
 
-fn read(random: &mut Random, seen: &[Tag]) -> Call {
+/// The id, the occurrence and the wanted length of a reading.
+fn reading(random: &mut Random, seen: &[Tag]) -> (u32, usize, usize) {
     let at = match random.below(8) {
         0 => seen.len(),
         1..=2 => seen.len().saturating_sub(1),
@@ -49,11 +53,7 @@ fn read(random: &mut Random, seen: &[Tag]) -> Call {
         _ => before,
     };
     let wanted = wanted(random, tag);
-    Call::Read {
-        id: tag.id,
-        occurrence: perhaps_far(random, occurrence),
-        wanted: perhaps_far(random, wanted),
-    }
+    (tag.id, perhaps_far(random, occurrence), perhaps_far(random, wanted))
 }
 
 /// How many bytes are wanted of the tag's answer: about as many as are stored.

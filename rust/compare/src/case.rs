@@ -16,6 +16,8 @@ pub enum Call {
     Finish { cursor: Option<usize> },
     List { index: usize },
     Read { id: u32, occurrence: usize, wanted: usize },
+    /// A reading with this many bytes as the default.
+    ReadOr { id: u32, occurrence: usize, wanted: usize, default: usize },
 }
 
 impl Call {
@@ -30,6 +32,7 @@ impl Call {
             Call::Finish { .. } => &["finish", "outcome", "size"],
             Call::List { .. } => &["list", "outcome", "place", "id", "size", "word", "value"],
             Call::Read { .. } => &["read", "outcome", "place", "answer", "value", "count"],
+            Call::ReadOr { .. } => &["read_or", "outcome", "default", "offset", "count"],
         }
     }
 }

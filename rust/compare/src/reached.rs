@@ -45,13 +45,14 @@ impl fmt::Display for Thing {
 }
 
 /// The outcomes that each function can give.
-const OUTCOMES: [(&str, &[u64]); 6] = [
+const OUTCOMES: [(&str, &[u64]); 7] = [
     ("serve", &[0, 1, 2, 3, 4, 5, 6, 14]),
     ("start", &[0, 7]),
     ("add", &[0, 7, 8, 9]),
     ("finish", &[0, 7, 9]),
     ("list", &[0, 1, 2, 4, 5, 11]),
     ("read", &[0, 1, 2, 4, 5, 10, 11, 12, 13]),
+    ("read_or", &[0, 1, 2, 4, 5, 10, 11, 12, 13]),
 ];
 
 /// The lengths of a command line that must be answered.

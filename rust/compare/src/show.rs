@@ -98,6 +98,9 @@ fn call_text(call: &Call) -> String {
         Call::Read { id, occurrence, wanted } => {
             format!("read id {id:08x}, occurrence {occurrence}, wanted {wanted}")
         }
+        Call::ReadOr { id, occurrence, wanted, default } => format!(
+            "read_or id {id:08x}, occurrence {occurrence}, wanted {wanted}, default of {default} bytes"
+        ),
     }
 }
 

@@ -15,7 +15,10 @@ struct Functions {
     finish: fn(&mut [u8], usize) -> (u32, usize),
     list: fn(&[u8], usize) -> Listed,
     read: fn(&[u8], u32, usize, usize) -> Reading,
+    read_or: ReadOr,
 }
+
+type ReadOr = for<'a> fn(&'a [u8], u32, usize, usize, &'a [u8]) -> (u32, &'a [u8]);
 
 const LIBRARY: Functions = Functions {
     serve: vcmailbox::serve,
@@ -24,6 +27,7 @@ const LIBRARY: Functions = Functions {
     finish: vcmailbox::finish,
     list: vcmailbox::list,
     read: vcmailbox::read,
+    read_or: vcmailbox::read_or,
 };
 
 const RULES: Functions = Functions {
@@ -33,7 +37,11 @@ const RULES: Functions = Functions {
     finish: interface::finish,
     list: interface::list,
     read: interface::read,
+    read_or: interface::read_or,
 };
+
+/// A byte of a default.
+const DEFAULT: u8 = 0xD7;
 
 /// What a call gives back, in the order of its names.
 pub type Numbers = [u64; 6];
@@ -95,8 +103,7 @@ impl Side {
                 self.cursor = cursor.unwrap_or(self.cursor);
                 // Twice the rest: buffer and request lie alike in some cases, and apart in others.
                 let request = Guarded::new(request, 2 * self.address);
-                let (at, request) = (&mut self.cursor, request.lent());
-                let outcome = (functions.add)(lent, at, *id, *size, request);
+                let outcome = (functions.add)(lent, &mut self.cursor, *id, *size, request.lent());
                 pair((outcome, self.cursor))
             }
             Call::Finish { cursor } => {
@@ -106,7 +113,23 @@ impl Side {
             Call::Read { id, occurrence, wanted } => {
                 shown((functions.read)(lent, *id, *occurrence, *wanted))
             }
+            Call::ReadOr { id, occurrence, wanted, default } => {
+                self.read_or(functions.read_or, *id, *occurrence, *wanted, *default)
+            }
         };
+    }
+
+    fn read_or(
+        &self,
+        read_or: ReadOr,
+        id: u32,
+        occurrence: usize,
+        wanted: usize,
+        default: usize,
+    ) -> Numbers {
+        let default = Guarded::new(&vec![DEFAULT; default], 2 * self.address);
+        let (message, default) = (self.bytes.lent(), default.lent());
+        stands(read_or(message, id, occurrence, wanted, default), [message, default])
     }
 }
 
@@ -122,6 +145,18 @@ fn listed(given: Listed) -> Numbers {
 fn shown(given: Reading) -> Numbers {
     let Reading { outcome, place, answer, value, count } = given;
     [outcome.into(), place as u64, answer.into(), value as u64, count as u64, 0]
+}
+
+/// Which of the slices the bytes shown are a part of, by its number, their offset in it and their count.
+fn stands((outcome, shown): (u32, &[u8]), slices: [&[u8]; 2]) -> Numbers {
+    let offset = |slice: &[u8]| {
+        let at = (shown.as_ptr() as usize).checked_sub(slice.as_ptr() as usize)?;
+        (at + shown.len() <= slice.len()).then_some(at)
+    };
+    let holder = |(which, slice): (usize, &&[u8])| Some((which, offset(slice)?));
+    let none = (slices.len(), 0);
+    let (which, at) = slices.iter().enumerate().find_map(holder).unwrap_or(none);
+    [outcome.into(), which as u64, at as u64, shown.len() as u64, 0, 0]
 }
 
 /// Where the sides part: the call, and what each holds after it.

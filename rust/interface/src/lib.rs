@@ -12,7 +12,7 @@ pub mod validity;
 pub mod walk;
 
 pub use builder::{add, finish, start};
-pub use reader::{list, read, Listed, Reading};
+pub use reader::{list, read, read_or, Listed, Reading};
 pub use record::*;
 pub use respond::respond;
 pub use validity::is_valid;

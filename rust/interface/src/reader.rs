@@ -50,6 +50,19 @@ pub fn read(lent: &[u8], id: u32, occurrence: usize, wanted: usize) -> Reading {
     }
 }
 
+/// The outcome, and the wanted bytes where they stand in the message, or on any refusal the default.
+pub fn read_or<'a>(
+    lent: &'a [u8],
+    id: u32,
+    occurrence: usize,
+    wanted: usize,
+    default: &'a [u8],
+) -> (u32, &'a [u8]) {
+    let Reading { outcome, value, count, .. } = read(lent, id, occurrence, wanted);
+    let shown = if outcome == DONE { &lent[value..value + count] } else { default };
+    (outcome, shown)
+}
+
 fn answered_tag(lent: &[u8], id: u32, occurrence: usize) -> Result<Tag, (u32, usize)> {
     let size = size_of(lent).map_err(|outcome| (outcome, 0))?;
     if !matches!(word(lent, CODE), SUCCESS | FAILURE) {

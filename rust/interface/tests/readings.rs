@@ -131,6 +131,26 @@ fn reading_a_reply() {
 }
 
 #[test]
+fn reading_with_a_default() {
+    let mut reply = message(&[0x0001_0003, 4, 0, 0, 2, 4, 0, 0]);
+    let default = [1, 2, 3, 4, 5, 6];
+    let mut shown = |served: bool, id, wanted| {
+        if served {
+            respond(&mut board(), &mut reply);
+        }
+        let (outcome, bytes) = read_or(&reply, id, 0, wanted, &default);
+        (outcome, bytes.to_vec(), bytes.as_ptr() == default.as_ptr())
+    };
+    let refused = |outcome| (outcome, default.to_vec(), true);
+    assert_eq!(shown(false, 0x0001_0003, 4), refused(10));
+    assert_eq!(shown(true, 0x0001_0003, 4), (0, vec![0xB8, 0x27, 0xEB, 0x12], false));
+    assert_eq!(shown(false, 0x0001_0003, 0), (0, vec![], false));
+    assert_eq!(shown(false, 0x0001_0003, 5), refused(13));
+    assert_eq!(shown(false, 0x0001_0001, 4), refused(11));
+    assert_eq!(shown(false, 2, 0), refused(12));
+}
+
+#[test]
 fn building_refuses_in_order() {
     let mut buffer = [0xAA; 48];
     assert_eq!(start(&buffer[..15]), (7, 0));

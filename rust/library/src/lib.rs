@@ -2,12 +2,19 @@
 //! reference, and nothing lent to be written overlaps anything else.
 
 use std::mem::MaybeUninit;
+use std::slice;
 
 pub use interface::record::*;
 pub use interface::{Listed, Reading};
 
 mod c {
     use interface::record::Board;
+
+    #[repr(C)]
+    pub struct Bytes {
+        pub bytes: *const u8,
+        pub length: usize,
+    }
 
     extern "C" {
         pub fn vc_start(buffer: *const u8, length: usize, cursor: *mut u32) -> u32;
@@ -41,6 +48,14 @@ mod c {
             answer: *mut u32,
             value: *mut u32,
             count: *mut u32,
+        ) -> u32;
+        pub fn vc_read_or(
+            message: *const u8,
+            length: usize,
+            id: u32,
+            occurrence: usize,
+            wanted: usize,
+            shown: *mut Bytes,
         ) -> u32;
         pub fn vc_bench(board: *mut Board);
         pub fn vc_serve(board: *mut Board, message: *mut u8, length: usize, place: *mut u32)
@@ -116,6 +131,21 @@ pub fn read(message: &[u8], id: u32, occurrence: usize, wanted: usize) -> Readin
         )
     };
     Reading { outcome, place: place as usize, answer, value: value as usize, count: count as usize }
+}
+
+/// The outcome, and the first `wanted` bytes of the answer where they stand in the message, or on a
+/// refusal the default.
+pub fn read_or<'a>(
+    message: &'a [u8],
+    id: u32,
+    occurrence: usize,
+    wanted: usize,
+    default: &'a [u8],
+) -> (u32, &'a [u8]) {
+    let (start, length) = (message.as_ptr(), message.len());
+    let mut shown = c::Bytes { bytes: default.as_ptr(), length: default.len() };
+    let outcome = unsafe { c::vc_read_or(start, length, id, occurrence, wanted, &mut shown) };
+    (outcome, unsafe { slice::from_raw_parts(shown.bytes, shown.length) })
 }
 
 /// The bench record.

@@ -72,9 +72,10 @@ fn plainer_number(call: &mut Call, number: u32, keep: usize) {
         (Call::Add { cursor: Some(cursor), .. }, 3) => *cursor &= keep,
         (Call::Finish { cursor: Some(cursor) }, 0) => *cursor &= keep,
         (Call::List { index }, 0) => *index &= keep,
-        (Call::Read { id, .. }, 0) => *id &= keep as u32,
-        (Call::Read { occurrence, .. }, 1) => *occurrence &= keep,
-        (Call::Read { wanted, .. }, 2) => *wanted &= keep,
+        (Call::Read { id, .. } | Call::ReadOr { id, .. }, 0) => *id &= keep as u32,
+        (Call::Read { occurrence, .. } | Call::ReadOr { occurrence, .. }, 1) => *occurrence &= keep,
+        (Call::Read { wanted, .. } | Call::ReadOr { wanted, .. }, 2) => *wanted &= keep,
+        (Call::ReadOr { default, .. }, 3) => *default &= keep,
         _ => {}
     }
 }

@@ -33,10 +33,15 @@ fn call_cost(call: &Call) -> u64 {
         }
         Call::Finish { cursor: at } => cursor(at),
         Call::List { index } => digits(*index as u64),
-        Call::Read { id, occurrence, wanted } => {
-            digits(u64::from(*id)) + digits(*occurrence as u64) + digits(*wanted as u64)
+        Call::Read { id, occurrence, wanted } => reading_cost(*id, *occurrence, *wanted),
+        Call::ReadOr { id, occurrence, wanted, default } => {
+            reading_cost(*id, *occurrence, *wanted) + digits(*default as u64)
         }
     }
+}
+
+fn reading_cost(id: u32, occurrence: usize, wanted: usize) -> u64 {
+    digits(u64::from(id)) + digits(occurrence as u64) + digits(wanted as u64)
 }
 
 fn bytes_cost(bytes: &[u8]) -> u64 {

@@ -1,0 +1,56 @@
+// Answers that are read, or the default in their place.
+use board::bench::bench_record;
+use console::bytes_of;
+use console::number;
+use console::text;
+use message::builder;
+use message::reader::part_or;
+use message::reader::read;
+use responder::respond::respond;
+use words::bytes::first;
+ghost use mathlib.Core.Path.{_≡_};
+
+const MAC_ADDRESS: u32 = 0x0001_0003;
+
+const SERIAL: u32 = 0x0001_0004;
+
+// No tag of the table.
+const UNKNOWN: u32 = 2;
+
+// The outcome of a reading, and the bytes that are shown where six others are the default.
+fn show(name: &[u8], message: &[u8], id: u32, wanted: usize) {
+    let default = [1, 2, 3, 4, 5, 6];
+    let reading = read(message, id, 0, wanted);
+    text(name);
+    number(b": outcome ", reading.outcome as u64);
+    text(b" shows");
+    bytes_of(part_or(message, id, 0, wanted, &default));
+}
+
+// A request for the MAC address in a value of four bytes, and an unknown tag.
+fn build(buffer: &mut [u8]) {
+    let start = builder::start(buffer).cursor;
+    let second = builder::add(buffer, start, MAC_ADDRESS, 4, &[]).cursor;
+    let end = builder::add(buffer, second, UNKNOWN, 4, &[]).cursor;
+    builder::finish(buffer, end);
+}
+
+fn show_reply(reply: &[u8]) {
+    show(b"MAC address in 4 bytes, 4 wanted", reply, MAC_ADDRESS, 4);
+    show(b"5 wanted", reply, MAC_ADDRESS, 5);
+    show(b"6 wanted", reply, MAC_ADDRESS, 6);
+    show(b"0 wanted", reply, MAC_ADDRESS, 0);
+    show(b"no such tag", reply, SERIAL, 4);
+    show(b"not answered", reply, UNKNOWN, 0);
+    show(b"lent 11", first(reply, 11), MAC_ADDRESS, 4);
+}
+
+pub fn cases()
+    ensures { λ r. ⌜ r ≡ tt ⌝ }
+{
+    let mut lent = [0u8; 48];
+    build(&mut lent);
+    show(b"MAC address not served", &lent, MAC_ADDRESS, 4);
+    respond(bench_record(), &mut lent);
+    show_reply(&lent);
+}
