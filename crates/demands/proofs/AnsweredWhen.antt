@@ -26,8 +26,8 @@ use Rattle.responder.specs.Turns.{Said, silent, says, Turn, turns}
 use Rattle.demands.proofs.Laws.Cuts.{HasAsked, has-asked, asks-known, CutAt, cut-before, cut-behind, cut-none, cut-at}
 use Rattle.demands.proofs.Laws.Mixed.{answered-faultless, answered-apart, apart-answered}
 use Rattle.demands.proofs.Laws.Replied.{Replied, untouched, walked, replied, clash}
-use Rattle.demands.specs.AnsweredWhen.{Known, OfGroup, Faultless, testOf, AsksGroup, Mixes, Answerable, AnsweredWhen}
-use Rattle.demands.specs.Terms.{noTag, walkOf, tagOf, trailOf, decisionOf, saidAt, Answered}
+use Rattle.demands.specs.AnsweredWhen.{testOf, Answerable, AnsweredWhen}
+use Rattle.demands.specs.Terms.{noTag, walkOf, tagOf, trailOf, decisionOf, saidAt, Answered, Faultless}
 
 -- ---- what the tag of an index says is its turn on some state
 turn-at : {S : Type 0} (turn : S → Request → Turn S) → ((s : S) → turn s passed .said ≡ silent) → (s : S) (rs : List Request) (i : ℕ)

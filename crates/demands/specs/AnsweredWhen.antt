@@ -1,12 +1,11 @@
--- A tag is answered exactly when its id is known, its word came with bit 31 clear, it stands before any fault and, where it
--- is one of the frame buffer group, the message is faultless and its operation does not mix tests with other tags.
+-- A tag is answered exactly when its id is known, its word came with bit 31 clear, it stands before any fault and, where
+-- it is one of the frame buffer group, the message is faultless and its operation does not mix tests with other tags.
 use mathlib.Core.Bool.{Bool, true, false}
 use mathlib.Core.List.{List}
 use mathlib.Core.Logic.{_⊎_, _↔_}
 use mathlib.Core.Path.{_≡_}
 use Prim.Native.Nat.{ℕ, _<_}
 use lib.ListN.{getD}
-use Rattle.message.specs.Outcomes.{done}
 use Rattle.message.specs.declared.walk.Tag.{Tag}
 use Rattle.board.specs.declared.record.Board.{Board}
 use Rattle.table.specs.Table.{rowOf}
@@ -15,7 +14,7 @@ use Rattle.table.specs.declared.kinds.Kind.{Kind}
 use Rattle.table.specs.declared.rows.Row.{Row}
 use Rattle.requests.specs.Requests.{Request, passed, short, asks}
 use Rattle.responder.specs.Reply.{reply}
-use Rattle.demands.specs.Terms.{tagOf, trailOf, Answered}
+use Rattle.demands.specs.Terms.{tagOf, trailOf, Answered, Faultless}
 
 -- the id is known; it is one of the group
 abbrev pub Known : (id : ℕ) → Type 0
@@ -23,10 +22,6 @@ Known id = (kind : Kind) × (least : ℕ) × (rowOf id ≡ Row.Known kind least)
 
 abbrev pub OfGroup : (id : ℕ) → Type 0
 OfGroup id = (tag : FrameTag) × (least : ℕ) × (rowOf id ≡ Row.Known (Kind.Group tag) least)
-
--- the message is faultless
-abbrev pub Faultless : Board → List ℕ → Type 0
-Faultless b m = reply b m .answer .outcome ≡ done
 
 -- a request asks the group for a test; it asks the group for something else
 abbrev pub testOf : FrameTag → Bool

@@ -62,8 +62,8 @@ placeBehind p (a ∷ adds) = placeBehind (tagEnd p (a .size)) adds
 abbrev pub valueOffset : List Add → ℕ → ℕ
 valueOffset adds i = placeBehind header (take i adds) + tagHeader
 
--- the lister's i-th tag of m is the add: id, value size, tag word 0, and its value offset, where the request bytes stand,
--- then zeros to the value's size
+-- the lister's i-th tag of m is the add: id, value size, tag word 0, and its value offset, where the request bytes
+-- stand, then zeros to the value's size
 pub record Shows (m : List ℕ) (i offset : ℕ) (a : Add) : Type 0 where
   pub row : listed m i ≡ record {
     outcome = done;

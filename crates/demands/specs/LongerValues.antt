@@ -14,7 +14,7 @@ use Rattle.table.specs.declared.rows.Row.{Row}
 use Rattle.requests.specs.Requests.{valueOf, requestBytes}
 use Rattle.responder.specs.Reply.{reply}
 use Rattle.demands.specs.ReadingBack.{readingOf, sought}
-use Rattle.demands.specs.Terms.{walkOf, tagOf, Answered}
+use Rattle.demands.specs.Terms.{walkOf, tagOf, Answered, Faultless}
 use Rattle.demands.specs.Walked.{LeavesTags}
 
 -- ---- the premises
@@ -36,8 +36,8 @@ SameRequest m m′ t t′ =
 -- two requests m and m′, each served on the record b
 pub record AlikeButLonger (b : Board) (m m′ : List ℕ) : Type 0 where
   -- both are faultless: outcome 0, which only a valid record gives
-  pub faultless : reply b m .answer .outcome ≡ done
-  pub faultless′ : reply b m′ .answer .outcome ≡ done
+  pub faultless : Faultless b m
+  pub faultless′ : Faultless b m′
   -- the same tags in order: as many in both, ids equal
   pub ids : tagIds m ≡ tagIds m′
   -- the same tag words

@@ -4,6 +4,7 @@ use mathlib.Core.Path.{_≡_}
 use Prim.Native.Nat.{ℕ}
 use lib.ListN.{getD}
 use Rattle.words.specs.Numbers.{word}
+use Rattle.message.specs.Outcomes.{done}
 use Rattle.message.specs.Sizes.{header}
 use Rattle.message.specs.Walk.{Walk, walkFrom}
 use Rattle.message.specs.declared.walk.Tag.{Tag}
@@ -41,6 +42,10 @@ answersOf b m = answers (decisionOf b m) b (trailOf m .requests)
 -- what the tag of an index says: behind a fault, and behind the last tag, nothing
 abbrev pub saidAt : Board → List ℕ → ℕ → Said
 saidAt b m i = getD (answersOf b m) i silent
+
+-- the message is faultless on this record
+abbrev pub Faultless : Board → List ℕ → Type 0
+Faultless b m = reply b m .answer .outcome ≡ done
 
 -- the tag of an index is answered: the message is walked, and the tag says something
 abbrev pub Answered : Board → List ℕ → ℕ → Type 0

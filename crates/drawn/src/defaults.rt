@@ -7,7 +7,7 @@ use message::builder;
 use message::reader::part_or;
 use message::reader::read;
 use responder::respond::respond;
-use words::bytes::first;
+use words::bytes::prefix;
 ghost use mathlib.Core.Path.{_≡_};
 
 const MAC_ADDRESS: u32 = 0x0001_0003;
@@ -42,7 +42,7 @@ fn show_reply(reply: &[u8]) {
     show(b"0 wanted", reply, MAC_ADDRESS, 0);
     show(b"no such tag", reply, SERIAL, 4);
     show(b"not answered", reply, UNKNOWN, 0);
-    show(b"lent 11", first(reply, 11), MAC_ADDRESS, 4);
+    show(b"lent 11", prefix(reply, 11), MAC_ADDRESS, 4);
 }
 
 pub fn cases()
