@@ -27,8 +27,9 @@ use denote.Steps.{owned}
 use denote.Struct.Laws as LL
 use denote.Triple.Statement.{Triple}
 use denote.Triple.Table.{entered, cited}
-use Rattle.message.proofs.Laws.Asked.{Passed, Rows, Promise, Asking, Slice, question, of-slice, of-reader, Asked, Fit}
+use Rattle.message.proofs.Laws.Asked.{Passed, Rows, Asking, of-slice, Asked, Fit}
 use Rattle.message.proofs.Laws.Asked.{entry, Walk, enters, asked-at, exits, meets}
+use Rattle.message.proofs.Laws.Calls.{opening, reading, reader-copies, in-local}
 use Rattle.message.proofs.reader.Reader as T
 use Rattle.message.proofs.reader.Reader.Laws as T′
 use Rattle.message.proofs.reader.Reading as S
@@ -52,31 +53,14 @@ use Rattle.message.specs.declared.reader.Reading.{Reading}
 abbrev tag : Passed
 tag = record { row = Q.the-row; vals = λ n. Q′.lowered n ∷ []; tells = LL.tells Q.the-type Q′.the-laws; pure = λ n. Q′.the-field-plain (Q.the-type .to n); still = refl }
 
--- the function itself, and the functions that it calls
 abbrev two : Asking
 two = of-slice (tag ∷ tag ∷ []) (λ κs. R.the-row) (λ κs s n r. r ≡ foundTwo (now s) (n .0) (n .1 .0))
-
-abbrev opening : Asking
-opening = of-slice [] (λ κs. T.the-row (namedLft 1 0 tt κs)) (λ κs s n r. r .bytes ≡ s)
-
-abbrev reading : Asking
-reading = of-reader question (λ κs. S.the-row) (λ κs s n r. r ≡ found (now s) (n .0) (n .1 .0) (n .1 .1 .0))
 
 module _ {M : Type 1} {𝓤 : URA M} {H : Heap 𝓤} {A : Atoms 𝓤} (W : Given 𝓤 H A) (κ : Lft) (q : Share) (s : RefT (List ℕ))
     (n : Denots (Rows (κ, tt) (two .passed))) where
   -- the machine value that s has
   abbrev v : Val
   v = two .lowered (κ, tt) s
-
-  -- the struct's type as a local of a body has it
-  abbrev αᵉ : NamedLft
-  αᵉ = record { mir = erased; lft = κ }
-
-  abbrev α : NamedLft
-  α = namedLft 1 0 tt (κ, tt)
-
-  held : (d : Reader) (u : Val) → Is (reading .Has (κ, tt)) d (u ∷ []) → Holds (hasTy (T′.mir erased) u) × WT u
-  held d u is = LL.lawful (T.the-type αᵉ) (T′.the-laws αᵉ) 𝓤 H A W .typed d _ is .0
 
   -- two readings with their machine values are the struct of both with its own
   both : {t₁ t₂ : Reading} {u₁ u₂ : Val} → Is S.the-row t₁ (u₁ ∷ []) → Is S.the-row t₂ (u₂ ∷ [])
@@ -97,9 +81,9 @@ module _ {M : Type 1} {𝓤 : URA M} {H : Heap 𝓤} {A : Atoms 𝓤} (W : Given
         asked-at W opening κ q s v tt ! fm known-open (shr-slice-copy 𝓤 H A W (named 0) κ u8) tt
         (and-then ! (load ! (from ! (stop !)) (look ! 16 refl)) (no-more !)) (λ u d e is.
         -- [what the struct owns; the token; what s owns; room for _8; …; _0; …]
-        land ! (from ! (stop !)) (init ! 11 refl (held d u is)) $
-        assigns ! (of-opd ! (load ! (from ! (stop !)) (look ! 11 refl))) (from ! (stop !)) (init ! 7 refl (held d u is)) $
-        asked-at W reading κ q d u (Q.the-type .to (n .0)) ! fm known-read (LL.copy (T.the-type α) (T′.the-copy α) 𝓤 H A W)
+        land ! (from ! (stop !)) (init ! 11 refl (in-local W κ d u is)) $
+        assigns ! (of-opd ! (load ! (from ! (stop !)) (look ! 11 refl))) (from ! (stop !)) (init ! 7 refl (in-local W κ d u is)) $
+        asked-at W reading κ q d u (Q.the-type .to (n .0)) ! fm known-read (reader-copies W κ)
         (LL.owed Q.the-type Q′.the-laws (n .0) _ (are .0))
         (and-then ! (load ! (from ! (stop !)) (look ! 7 refl))
         (and-then ! (load ! (from ! (fld ! refl (stop !))) (look-in ! 15 (sub ! 0 refl (whole !))))
@@ -107,8 +91,8 @@ module _ {M : Type 1} {𝓤 : URA M} {H : Heap 𝓤} {A : Atoms 𝓤} (W : Given
         (and-then ! (load ! (from ! (fld ! refl (stop !))) (look-in ! 15 (sub ! 2 refl (whole !)))) (no-more !))))) (λ u₁ t₁ e₁ is₁.
         -- [what the first reading owns; the token; what the struct owns; what s owns; room for _8; …; _0; …]
         land ! (from ! (stop !)) (init ! 10 refl (LL.lawful S.the-type S′.the-laws 𝓤 H A W .typed t₁ _ is₁ .0)) $ drop ! $
-        assigns ! (of-opd ! (load ! (from ! (stop !)) (look ! 11 refl))) (from ! (stop !)) (init ! 3 refl (held d u is)) $ move ! (1 ∷ []) $
-        asked-at W reading κ q d u (Q.the-type .to (n .1 .0)) ! fm known-read (LL.copy (T.the-type α) (T′.the-copy α) 𝓤 H A W)
+        assigns ! (of-opd ! (load ! (from ! (stop !)) (look ! 11 refl))) (from ! (stop !)) (init ! 3 refl (in-local W κ d u is)) $ move ! (1 ∷ []) $
+        asked-at W reading κ q d u (Q.the-type .to (n .1 .0)) ! fm known-read (reader-copies W κ)
         (LL.owed Q.the-type Q′.the-laws (n .1 .0) _ (are .1 .0))
         (and-then ! (load ! (from ! (stop !)) (look ! 3 refl))
         (and-then ! (load ! (from ! (fld ! refl (stop !))) (look-in ! 13 (sub ! 0 refl (whole !))))
