@@ -2,6 +2,7 @@
 // `stdout`; its file `stdin` has the messages that it serves.
 mod answered;
 mod built;
+mod kept;
 mod listed;
 mod messages;
 mod print;
@@ -17,5 +18,6 @@ fn main() {
     answered::long(b"size 65536", 65536);
     answered::long(b"size 65540", 65540);
     built::largest_served();
+    kept::cases();
     messages::run();
 }

@@ -13,7 +13,7 @@ use denote.Laws.{Is, Copy}
 use denote.Ref.{now}
 use denote.Signature.{namedLft}
 use denote.Struct.Laws as LL
-use Rattle.message.proofs.Laws.Asked.{Promise, Asking, Slice, question, of-slice, of-reader}
+use Rattle.message.proofs.Laws.Asked.{Promise, Asking, Slice, sought, of-slice, of-reader}
 use Rattle.message.proofs.reader.Reader as T
 use Rattle.message.proofs.reader.Reader.Laws as T′
 use Rattle.message.proofs.reader.Reading as S
@@ -21,28 +21,28 @@ use Rattle.message.specs.Reader.{found, view, shownPart}
 use Rattle.message.specs.declared.reader.Reader.{Reader}
 
 -- what `read` and `part` promise, as functions and as methods
-abbrev pub reads : Promise Slice (λ κs. S.the-row) question
-reads κs s n r = r ≡ found (now s) (n .0) (n .1 .0) (n .1 .1 .0)
+abbrev pub read-promise : Promise Slice (λ κs. S.the-row) sought
+read-promise κs s n r = r ≡ found (now s) (n .0) (n .1 .0) (n .1 .1 .0)
 
-abbrev pub parts : Promise Slice Slice question
-parts κs s n r = view r ≡ shownPart s (found (now s) (n .0) (n .1 .0) (n .1 .1 .0))
+abbrev pub part-promise : Promise Slice Slice sought
+part-promise κs s n r = view r ≡ shownPart s (found (now s) (n .0) (n .1 .0) (n .1 .1 .0))
 
 -- `open`, and the methods
-abbrev pub opening : Asking
-opening = of-slice [] (λ κs. T.the-row (namedLft 1 0 tt κs)) (λ κs s n r. r .bytes ≡ s)
+abbrev pub open-call : Asking
+open-call = of-slice [] (λ κs. T.the-row (namedLft 1 0 tt κs)) (λ κs s n r. r .bytes ≡ s)
 
-abbrev pub reading : Asking
-reading = of-reader question (λ κs. S.the-row) reads
+abbrev pub read-call : Asking
+read-call = of-reader sought (λ κs. S.the-row) read-promise
 
-abbrev pub parting : Asking
-parting = of-reader question Slice parts
+abbrev pub part-call : Asking
+part-call = of-reader sought Slice part-promise
 
 module _ {M : Type 1} {𝓤 : URA M} {H : Heap 𝓤} {A : Atoms 𝓤} (W : Given 𝓤 H A) (κ : Lft) where
   -- a reader is Copy
-  pub reader-copies : Copy 𝓤 H A (reading .Has (κ, tt))
+  pub reader-copies : Copy 𝓤 H A (read-call .Has (κ, tt))
   reader-copies = LL.copy (T.the-type (namedLft 1 0 tt (κ, tt))) (T′.the-copy (namedLft 1 0 tt (κ, tt))) 𝓤 H A W
 
   -- in a local of a body MIR erases the lifetime of its type: it has the type at `erased`, since what it owns does not say the lifetime's name
-  pub in-local : (d : Reader) (u : Val) → Is (reading .Has (κ, tt)) d (u ∷ []) → Holds (hasTy (T′.mir erased) u) × WT u
+  pub in-local : (d : Reader) (u : Val) → Is (read-call .Has (κ, tt)) d (u ∷ []) → Holds (hasTy (T′.mir erased) u) × WT u
   in-local d u is =
       LL.lawful (T.the-type (record { mir = erased; lft = κ })) (T′.the-laws (record { mir = erased; lft = κ })) 𝓤 H A W .typed d _ is .0
