@@ -3,6 +3,7 @@
 mod answered;
 mod built;
 mod defaults;
+mod kept;
 mod listed;
 mod messages;
 mod print;
@@ -19,5 +20,6 @@ fn main() {
     answered::long(b"size 65540", 65540);
     built::largest_served();
     defaults::cases();
+    kept::cases();
     messages::run();
 }

@@ -7,6 +7,7 @@ use console::word;
 use message::builder::Built;
 use message::builder::Finished;
 use message::lister::Listed;
+use message::reader::Reading;
 ghost use mathlib.Core.Path.{_≡_};
 
 pub fn listed(name: &[u8], r: Listed)
@@ -19,6 +20,18 @@ pub fn listed(name: &[u8], r: Listed)
     word(b" size ", r.size);
     word(b" word ", r.word);
     number(b" value at ", r.value as u64);
+    text(b"\n");
+}
+
+pub fn reading(name: &[u8], r: Reading)
+    ensures { λ r. ⌜ r ≡ tt ⌝ }
+{
+    text(name);
+    number(b": outcome ", r.outcome as u64);
+    number(b" place ", r.place as u64);
+    number(b" length ", r.length as u64);
+    number(b" value at ", r.value as u64);
+    number(b" count ", r.count as u64);
     text(b"\n");
 }
 
