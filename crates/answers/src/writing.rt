@@ -1,7 +1,8 @@
 // The answer of a tag, written into its message: the tag word, and the value's first bytes. A small answer
 // is a number or two, a long one a part of the record.
 //
-// No entry points: the walk above has found the tag at `at`, whose value has `size` bytes, in the message.
+// No entry points: each asks that the tag at `at`, whose value has `size` bytes, lies in the message, as the walk
+// above has found it. Then its word and its value are there to be written, and nothing is left to refuse.
 use crate::answer::store_long;
 use crate::answer::store_pair;
 use crate::answer::store_word;
@@ -37,7 +38,8 @@ pub fn put_word(msg: &mut [u8], at: usize, size: u32, n: u32)
     store_word(&mut msg[value..end], n);
 }
 
-// Answers the tag with two words.
+// Answers the tag with two words. It asks for the tag in the message because it writes at `at` without a look:
+// elsewhere the writes would fall on other tags, or behind the message.
 pub fn put_pair(msg: &mut [u8], at: usize, size: u32, a: u32, b: u32)
     requires { ⌜ InMessage (length (now msg)) at size ⌝ }
     ensures { λ _. ⌜ now (msg .exit) ≡ answered at size (twoWords a b) (now (msg .entry)) ⌝ }

@@ -22,8 +22,8 @@ use Rattle.requests.proofs.Laws.Endings.{ending-outcome}
 use Rattle.requests.specs.Requests.{Request, passed, short, asks, valueOf, requestBytes, requestOf, trail, WalkOutcome}
 use Rattle.responder.specs.Answers.{turnOf}
 use Rattle.responder.specs.Reply.{served, reply}
-use Rattle.responder.specs.Turns.{Said, silent, says, Turn, turns}
-use Rattle.demands.proofs.Laws.Cuts.{HasAsked, has-asked, asks-known, CutAt, cut-before, cut-behind, cut-none, cut-at}
+use Rattle.responder.specs.Turns.{silent, says, Turn, turns}
+use Rattle.demands.proofs.Laws.Cuts.{has-asked, asks-known, CutAt, cut-before, cut-behind, cut-none, cut-at}
 use Rattle.demands.proofs.Laws.Mixed.{answered-faultless, answered-apart, apart-answered}
 use Rattle.demands.proofs.Laws.Replied.{Replied, untouched, walked, replied, clash}
 use Rattle.demands.specs.AnsweredWhen.{testOf, Answerable, AnsweredWhen}

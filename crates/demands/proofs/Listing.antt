@@ -1,5 +1,4 @@
 -- The lister shows what the builder took, and finishing is never refused.
-use mathlib.Core.Path.{sym}
 use Rattle.message.proofs.Laws.Built.{started-at}
 use Rattle.message.specs.Builder.{started}
 use Rattle.message.specs.Sizes.{header}

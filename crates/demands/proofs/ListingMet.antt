@@ -6,7 +6,7 @@ use Prim.Native.Nat.{ℕ}
 use lib.Dec.{lit<}
 use lib.ListN.{replicate}
 use Rattle.words.specs.Numbers.{le}
-use Rattle.message.specs.Builder.{started, startOutcome, added, addOutcome, goodCursor, tagBytes, finished, finishOutcome}
+use Rattle.message.specs.Builder.{started, startOutcome, added, addOutcome, goodCursor, tagBytes}
 use Rattle.message.specs.Outcomes.{done}
 use Rattle.demands.proofs.Listing.{finishing, listing}
 use Rattle.demands.specs.Listing.{Add, AreWords, Lists, run, requestBuilt}

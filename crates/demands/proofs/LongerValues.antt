@@ -7,7 +7,7 @@ use Prim.Native.Nat.{ℕ, zero, suc, _+_, _≤_, _<_}
 use native.Mathlib.Omega.{arith}
 use borrow.Author.Tests.{ltb-true, ltb-false}
 use lib.Dec.{ltb, leb}
-use lib.ListN.{length, take, drop, getD, length-take}
+use lib.ListN.{length, take, drop, getD}
 use lib.Seq.{take-take, length-take-le}
 use Rattle.message.proofs.Laws.Found.{unmet-end}
 use Rattle.message.proofs.Laws.Paired.{Paired, paired-found}
@@ -27,17 +27,17 @@ use Rattle.responder.specs.Reply.{served, reply}
 use Rattle.responder.specs.Turns.{Said, silent, says, Turns, turns}
 use Rattle.responder.specs.declared.respond.Served.{Served}
 use Rattle.demands.proofs.AnsweredWhen.{answered-inside}
-use Rattle.demands.proofs.Laws.Alike.{Alike, alike-by-index, requests-same, walk-done, SameHeader, paired-after, paired-words, PairAt, alike-at}
+use Rattle.demands.proofs.Laws.Alike.{Alike, alike-by-index, requests-same, walk-done, SameHeader, paired-after, paired-words, alike-at}
 use Rattle.demands.proofs.Laws.Alike.{alike-length, alike-occurrence}
 use Rattle.demands.proofs.Laws.ReadBack.{stored-is}
 use Rattle.demands.proofs.Laws.Replied.{Replied, untouched, walked, replied, clash}
-use Rattle.demands.proofs.Laws.Sought.{SoughtAt, sought-at}
+use Rattle.demands.proofs.Laws.Sought.{sought-at}
 use Rattle.demands.proofs.ReadingBack.{answer-fits, reads, found-left}
 use Rattle.demands.proofs.Walked.{walked-is, served-bytes}
-use Rattle.demands.specs.LongerValues.{tagWords, AlikeButLonger, storedAnswer, Begins, bytesRead}
+use Rattle.demands.specs.LongerValues.{tagWords, AlikeButLonger, storedAnswer, Begins}
 use Rattle.demands.specs.LongerValues.{ShownAlike, ReadAlike, ServedAlike, LongerValues}
 use Rattle.demands.specs.ReadingBack.{readingOf, sought, readingAt, storedCount, ReadsAnswer}
-use Rattle.demands.specs.Terms.{noTag, walkOf, tagOf, trailOf, decisionOf, answersOf, saidAt, Answered}
+use Rattle.demands.specs.Terms.{noTag, walkOf, tagOf, trailOf, decisionOf, answersOf, saidAt}
 use Rattle.demands.specs.Walked.{tagAfter, tagsAfter}
 
 -- ---- a faultless request

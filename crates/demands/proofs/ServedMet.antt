@@ -1,8 +1,8 @@
 -- The premises of the statements on one served message can be met: a message with a MAC address in a value of 4 bytes, an
 -- unknown tag, and a depth that is set and asked; one whose operation is refused, with a release; one that mixes a test with a set; and
 -- messages that are refused.
-use mathlib.Core.Bool.{Bool, true, false, true≢false}
-use mathlib.Core.List.{List, [], _∷_}
+use mathlib.Core.Bool.{true, false, true≢false}
+use mathlib.Core.List.{List, [], _∷_, map}
 use mathlib.Core.Logic.{inl, inr}
 use mathlib.Core.Path.{_≡_, refl, ap}
 use Prim.Native.Nat.{ℕ, zero, suc}
@@ -12,7 +12,7 @@ use lib.ListN.{length, getD, take}
 use Rattle.words.specs.Align.{oneBit}
 use Rattle.words.specs.Numbers.{numberAt, nthWord, wordBytes}
 use Rattle.message.specs.Opening.{goodSize, opened}
-use Rattle.message.specs.Outcomes.{done, tooFewLent, badSize, notRequest, invalidBoard}
+use Rattle.message.specs.Outcomes.{done}
 use Rattle.message.specs.Walk.{tagAt, overruns, step, walkFrom}
 use Rattle.message.specs.declared.walk.Tag.{Tag}
 use Rattle.board.proofs.Laws.Bench.{bench-valid}
@@ -23,7 +23,7 @@ use Rattle.board.specs.Facts.{validFacts}
 use Rattle.board.specs.Items.{validState, validDevice}
 use Rattle.board.specs.Record.{withDevices, withDisplay, valid}
 use Rattle.board.specs.declared.record.Board.{Board}
-use Rattle.table.specs.Table.{factKind, outsideTags, groupTags, table, rowOf}
+use Rattle.table.specs.Table.{Entry, factKind, outsideTags, groupTags, table, rowOf}
 use Rattle.table.specs.declared.kinds.FactTag.{FactTag}
 use Rattle.table.specs.declared.kinds.FrameTag.{FrameTag}
 use Rattle.table.specs.declared.kinds.Kind.{Kind}
@@ -32,6 +32,7 @@ use Rattle.tags.specs.Fact.{factAnswer}
 use Rattle.tags.specs.Outside.{outsideAnswer, outsideAfter}
 use Rattle.display.specs.Decision.{supportedFrom, placedAt, allocatable, fitsBuffer, accepted, decided, groupAnswer}
 use Rattle.display.specs.Operation.{withSetting, noted}
+use Rattle.display.specs.declared.decision.Decision.{Decision}
 use Rattle.requests.specs.Requests.{passed, asks, requestBytes, requestBy, requestOf, trail}
 use Rattle.responder.specs.Answers.{groupOf, turnOf}
 use Rattle.responder.specs.Reply.{served, reply}
@@ -42,7 +43,7 @@ use Rattle.demands.proofs.Changes.{changes, same-length, refusals}
 use Rattle.demands.proofs.Kept.{kept}
 use Rattle.demands.proofs.ReadingBack.{every-tag-sought, reads}
 use Rattle.demands.proofs.Walked.{walked-is}
-use Rattle.demands.specs.AnswerLengths.{HasArrays}
+use Rattle.demands.specs.AnswerLengths.{HasArrays, answerBy, rowLength}
 use Rattle.demands.specs.AnsweredWhen.{AsksGroup, Mixes}
 use Rattle.demands.specs.Changes.{Untouched}
 use Rattle.demands.specs.ReadingBack.{occurrence, sought, Reads}
@@ -101,10 +102,14 @@ several-sought = every-tag-sought severalTags 3 (lit< tt)
 pub several-read : Reads bench severalTags
 several-read = reads bench severalTags (inl several-done)
 
--- `AnswerLengths`: the arrays of the bench record
+-- `AnswerLengths`, on the bench record
 pub bench-arrays : HasArrays bench
 unfolding bench
 bench-arrays = record { mac = refl; line = refl }
+
+pub bench-lengths : (g : Decision) (request : List ℕ)
+    → map (λ (e : Entry). length (answerBy g bench (e .kind) request)) table ≡ map (rowLength bench) table
+bench-lengths g request = answer-lengths g bench request bench-arrays
 
 -- `AnsweredWhen`: the MAC address is answered, by what the rule asks; the unknown tag is not
 pub mac-answered : Answered bench severalTags 0
@@ -148,8 +153,8 @@ refused-asks = refl
 refused-apart : Mixes releaseRefused → ⊥
 refused-apart x = go (x .0 .0) (rw refused-asks at (x .0 .1))
   where
-    go : (i : ℕ) → AsksGroup true (getD (asks (Kind.Group FrameTag.Release) [] ∷ asks (Kind.Group (FrameTag.Set Setting.Depth)) (7 ∷ 0 ∷ 0 ∷ 0 ∷ []) ∷ []) i passed)
-        → ⊥
+    go : (i : ℕ)
+        → AsksGroup true (getD (asks (Kind.Group FrameTag.Release) [] ∷ asks (Kind.Group (FrameTag.Set Setting.Depth)) (7 ∷ 0 ∷ 0 ∷ 0 ∷ []) ∷ []) i passed) → ⊥
     go zero e = true≢false cc
     go (suc zero) e = true≢false cc
     go (suc (suc i)) e = e

@@ -1,5 +1,5 @@
--- A tag is answered exactly when its id is known, its word came with bit 31 clear, it stands before any fault and, where
--- it is one of the frame buffer group, the message is faultless and its operation does not mix tests with other tags.
+-- A tag is answered exactly when its id is known, its word came with bit 31 clear, it stands before any fault and, for
+-- one of the frame buffer group, the message is faultless and its operation does not mix tests with other tags.
 use mathlib.Core.Bool.{Bool, true, false}
 use mathlib.Core.List.{List}
 use mathlib.Core.Logic.{_⊎_, _↔_}

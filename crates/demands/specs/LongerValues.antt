@@ -62,7 +62,7 @@ bytesRead b m r = take (r .count) (drop (r .value) (reply b m .bytes))
 -- what a reading of the first shows, one of the second shows: the same L and the same bytes
 pub record ShownAlike (b : Board) (m m′ : List ℕ) (r r′ : Reading) : Type 0 where
   pub outcome : r′ .outcome ≡ done
-  pub total : r′ .length ≡ r .length
+  pub total : r′ .total ≡ r .total
   pub bytes : bytesRead b m′ r′ ≡ bytesRead b m r
 
 -- the reader, asked the same of both messages

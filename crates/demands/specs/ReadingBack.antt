@@ -56,7 +56,7 @@ pub record ReadsAnswer (b : Board) (m : List ℕ) (i : ℕ) (answer : List ℕ) 
   pub shows : (wanted : ℕ) → wanted ≤ storedCount m i answer → readingAt b m i wanted ≡ record {
     outcome = done;
     place = 0;
-    length = length answer;
+    total = length answer;
     value = tagOf m i .at + tagHeader;
     count = wanted;
   }

@@ -109,17 +109,19 @@ groupCases =
     ∷ groupCase (Alignment 16) (IsAlignment true)
     ∷ groupCase (Alignment 0x8000_0000) (IsAlignment true)
     -- two messages: the sets, then the buffer
-    ∷ groupCase (Operated benchDisplay (setTag Setting.Physical (twoWords 640 480) ∷ setTag Setting.Virtual (twoWords 640 480) ∷ setTag Setting.Depth (le 4 24) ∷ [])) (Answers
-    (twoWords 640 480 ∷ twoWords 640 480 ∷ le 4 24 ∷ []) lab)
+    ∷ groupCase
+    (Operated benchDisplay (setTag Setting.Physical (twoWords 640 480) ∷ setTag Setting.Virtual (twoWords 640 480) ∷ setTag Setting.Depth (le 4 24) ∷ []))
+    (Answers (twoWords 640 480 ∷ twoWords 640 480 ∷ le 4 24 ∷ []) lab)
     ∷ groupCase (Operated lab (allocateTag 16 ∷ [])) (Answers (labBuffer ∷ []) labStanding)
     -- alignments
     ∷ groupCase (Operated lab (allocateTag 0 ∷ [])) (Answers (twoWords 0 0 ∷ []) lab)
     ∷ groupCase (Operated lab (allocateTag 24 ∷ [])) (Answers (twoWords 0 0 ∷ []) lab)
     ∷ groupCase (Operated lab (allocateTag 1 ∷ [])) (Answers (labBuffer ∷ []) labStanding)
     ∷ groupCase (Operated lab (allocateTag 24 ∷ allocateTag 16 ∷ [])) (Answers (labBuffer ∷ labBuffer ∷ []) labStanding)
-    ∷ groupCase (Operated (largeScreen 0x8000_0000 0x7FFF_FFFF nowhere) (allocateTag 0x8000_0000 ∷ [])) (Answers (twoWords 0x8000_0000 0x0400_0000 ∷ []) (largeScreen
-    0x8000_0000 0x7FFF_FFFF (span 0x8000_0000 0x0400_0000)))
-    ∷ groupCase (Operated (largeScreen 0x8000_0001 0x7FFF_FFFE nowhere) (allocateTag 0x8000_0000 ∷ [])) (Answers (twoWords 0 0 ∷ []) (largeScreen 0x8000_0001 0x7FFF_FFFE nowhere))
+    ∷ groupCase (Operated (largeScreen 0x8000_0000 0x7FFF_FFFF nowhere) (allocateTag 0x8000_0000 ∷ []))
+    (Answers (twoWords 0x8000_0000 0x0400_0000 ∷ []) (largeScreen 0x8000_0000 0x7FFF_FFFF (span 0x8000_0000 0x0400_0000)))
+    ∷ groupCase (Operated (largeScreen 0x8000_0001 0x7FFF_FFFE nowhere) (allocateTag 0x8000_0000 ∷ []))
+    (Answers (twoWords 0 0 ∷ []) (largeScreen 0x8000_0001 0x7FFF_FFFE nowhere))
     -- tests
     ∷ groupCase (Operated labStanding (testTag Setting.Depth (le 4 8) ∷ testTag Setting.Depth (le 4 16) ∷ [])) (Answers (le 4 16 ∷ le 4 16 ∷ []) labStanding)
     ∷ groupCase (Operated labStanding (testTag Setting.Depth (le 4 12) ∷ [])) (Answers (le 4 24 ∷ []) labStanding)

@@ -44,7 +44,8 @@ fn put_frame(msg: &mut [u8], at: usize, size: u32, d: Decision, tag: FrameTag)
     }
 }
 
-// Answers a tag of the group where the decision says so.
+// Answers a tag of the group where the decision says so. No entry point: the walk above has found the tag in
+// the message.
 pub fn put_group(msg: &mut [u8], at: usize, size: u32, d: Decision, tag: FrameTag)
     requires { ⌜ InMessage (length (now msg)) at size ⌝ }
     ensures { λ _. ⌜ GroupPut d tag at size (now (msg .entry)) (now (msg .exit)) ⌝ }

@@ -1,8 +1,8 @@
 // Messages that are served, and what they hold afterwards.
-use crate::print;
+use crate::lines;
 use board::bench::bench_record;
 use board::record::Board;
-use console::words_of;
+use console::print_words;
 use message::lister::list;
 use responder::respond::respond;
 use words::numbers::put_u32;
@@ -11,15 +11,15 @@ ghost use Rattle.board.specs.Bench.{bench};
 ghost use Rattle.responder.specs.Reply.{reply};
 
 // Serves the bytes, prints outcome, place, words and display, and gives the record afterwards.
-pub fn serve(name: &[u8], board: Board, bytes: &mut [u8]) -> Board
+pub fn serve_and_draw(name: &[u8], board: Board, bytes: &mut [u8]) -> Board
     ensures { λ r. ⌜ now (bytes .exit) ≡ reply board (now (bytes .entry)) .bytes ⌝ }
     ensures { λ r. ⌜ r ≡ reply board (now (bytes .entry)) .answer .board ⌝ }
 {
     let served = respond(board, bytes);
-    print::served(name, served.outcome, served.place);
-    words_of(bytes);
+    lines::of_served(name, served.outcome, served.place);
+    print_words(bytes);
     let after = served.board;
-    print::display(after.display);
+    lines::of_display(after.display);
     after
 }
 
@@ -29,7 +29,7 @@ pub fn eleven()
 {
     let mut lent = [0u8; 11];
     lent[0] = 12;
-    serve(b"lent 11", bench_record(), &mut lent);
+    serve_and_draw(b"lent 11", bench_record(), &mut lent);
 }
 
 // A message of no tags, on a record whose DMA mask has bit 16.
@@ -40,26 +40,26 @@ pub fn invalid()
     board.facts.dma = 0x1_0000;
     let mut lent = [0u8; 12];
     lent[0] = 12;
-    serve(b"record not valid", board, &mut lent);
+    serve_and_draw(b"record not valid", board, &mut lent);
 }
 
 // A message of no tags with this size word, in 65,540 bytes.
-pub fn long(name: &[u8], size: u32)
+pub fn long_message(name: &[u8], size: u32)
     ensures { λ r. ⌜ r ≡ tt ⌝ }
 {
     let mut lent = [0u8; 65540];
     put_u32(&mut lent, 0, size);
     let served = respond(bench_record(), &mut lent);
-    print::served(name, served.outcome, served.place);
+    lines::of_served(name, served.outcome, served.place);
 }
 
 // The largest message, with its first and last tag.
-pub fn largest(bytes: &mut [u8])
+pub fn serve_largest(bytes: &mut [u8])
     ensures { λ _. ⌜ now (bytes .exit) ≡ reply bench (now (bytes .entry)) .bytes ⌝ }
 {
     let served = respond(bench_record(), bytes);
-    print::served(b"5460 tags served", served.outcome, served.place);
-    print::listed(b"tag 0", list(bytes, 0));
-    print::listed(b"tag 5459", list(bytes, 5459));
-    print::listed(b"tag 5460", list(bytes, 5460));
+    lines::of_served(b"5460 tags served", served.outcome, served.place);
+    lines::of_listed(b"tag 0", list(bytes, 0));
+    lines::of_listed(b"tag 5459", list(bytes, 5459));
+    lines::of_listed(b"tag 5460", list(bytes, 5460));
 }

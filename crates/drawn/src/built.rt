@@ -1,7 +1,7 @@
 // Requests that the builder makes.
 use crate::answered;
-use crate::print;
-use console::words_of;
+use crate::lines;
+use console::print_words;
 use message::builder;
 use message::builder::Built;
 use message::builder::Cursor;
@@ -25,19 +25,19 @@ fn add_many(buffer: &mut [u8], first: Built, count: usize) -> Built {
 }
 
 // The largest message: 5,460 tags of 12 bytes, and no room for one more.
-pub fn largest()
+pub fn largest_request()
     ensures { λ r. ⌜ r ≡ tt ⌝ }
 {
     let mut buffer = [0xAAu8; 65540];
     let first = builder::start(&buffer);
-    print::built(b"start", first);
+    lines::of_built(b"start", first);
     let full = add_many(&mut buffer, first, 5460);
-    print::built(b"5460 tags", full);
+    lines::of_built(b"5460 tags", full);
     let more = add_empty(&mut buffer, full.cursor);
-    print::built(b"one tag more", more);
-    print::finished(b"finished", builder::finish(&mut buffer, full.cursor));
-    print::listed(b"tag 5459", list(&buffer, 5459));
-    print::listed(b"tag 5460", list(&buffer, 5460));
+    lines::of_built(b"one tag more", more);
+    lines::of_finished(b"finished", builder::finish(&mut buffer, full.cursor));
+    lines::of_listed(b"tag 5459", list(&buffer, 5459));
+    lines::of_listed(b"tag 5460", list(&buffer, 5460));
 }
 
 // The same in 65,536 bytes, served.
@@ -48,7 +48,7 @@ pub fn largest_served()
     let first = builder::start(&buffer);
     let full = add_many(&mut buffer, first, 5460);
     builder::finish(&mut buffer, full.cursor);
-    answered::largest(&mut buffer);
+    answered::serve_largest(&mut buffer);
 }
 
 // The cursor behind a tag whose value and request are one word.
@@ -67,7 +67,7 @@ fn add_pair(buffer: &mut [u8], cursor: Cursor, id: u32, a: u32, b: u32) -> Curso
 }
 
 // The request of 80 bytes that sets 640 x 480 at depth 24, in a buffer of 84 other bytes.
-pub fn screen()
+pub fn screen_request()
     ensures { λ r. ⌜ r ≡ tt ⌝ }
 {
     let mut buffer = [0xAAu8; 84];
@@ -75,17 +75,17 @@ pub fn screen()
     let physical = add_pair(&mut buffer, first, 0x0004_8003, 640, 480);
     let shown = add_pair(&mut buffer, physical, 0x0004_8004, 640, 480);
     let depth = add_word(&mut buffer, shown, 0x0004_8005, 24);
-    print::finished(b"640 x 480 x 24", builder::finish(&mut buffer, depth));
-    words_of(&buffer);
+    lines::of_finished(b"640 x 480 x 24", builder::finish(&mut buffer, depth));
+    print_words(&buffer);
 }
 
 // A call with each cursor, id and value that the builder refuses, and its neighbours that it takes.
-pub fn refusals()
+pub fn refused_calls()
     ensures { λ r. ⌜ r ≡ tt ⌝ }
 {
     let mut buffer = [0u8; 48];
-    print::built(b"start in 15", builder::start(&buffer[..15]));
-    print::built(b"start in 16", builder::start(&buffer[..16]));
+    lines::of_built(b"start in 15", builder::start(&buffer[..15]));
+    lines::of_built(b"start in 16", builder::start(&buffer[..16]));
     add_at(b"cursor 4", &mut buffer, 4, 1, 0);
     add_at(b"cursor 10", &mut buffer, 10, 1, 0);
     add_at(b"cursor 52 of 48", &mut buffer, 52, 0, 0);
@@ -97,13 +97,13 @@ pub fn refusals()
     finish_at(b"finish at 4", &mut buffer, 4);
     finish_at(b"finish at 48", &mut buffer, 48);
     finish_at(b"finish at 44", &mut buffer, 44);
-    words_of(&buffer);
+    print_words(&buffer);
 }
 
 fn add_at(name: &[u8], buffer: &mut [u8], at: usize, id: u32, size: u32) {
-    print::built(name, builder::add(buffer, Cursor { at }, id, size, b"four"));
+    lines::of_built(name, builder::add(buffer, Cursor { at }, id, size, b"four"));
 }
 
 fn finish_at(name: &[u8], buffer: &mut [u8], at: usize) {
-    print::finished(name, builder::finish(buffer, Cursor { at }));
+    lines::of_finished(name, builder::finish(buffer, Cursor { at }));
 }

@@ -1,8 +1,8 @@
 // Answers that are read, or the default in their place.
 use board::bench::bench_record;
-use console::bytes_of;
-use console::number;
-use console::text;
+use console::print_bytes;
+use console::print_number;
+use console::print_text;
 use message::builder;
 use message::reader::part_or;
 use message::reader::read;
@@ -18,39 +18,39 @@ const SERIAL: u32 = 0x0001_0004;
 const UNKNOWN: u32 = 2;
 
 // The outcome of a reading, and the bytes that are shown where six others are the default.
-fn show(name: &[u8], message: &[u8], id: u32, wanted: usize) {
+fn draw_or(name: &[u8], message: &[u8], id: u32, wanted: usize) {
     let default = [1, 2, 3, 4, 5, 6];
     let reading = read(message, id, 0, wanted);
-    text(name);
-    number(b": outcome ", reading.outcome as u64);
-    text(b" shows");
-    bytes_of(part_or(message, id, 0, wanted, &default));
+    print_text(name);
+    print_number(b": outcome ", reading.outcome as u64);
+    print_text(b" shows");
+    print_bytes(part_or(message, id, 0, wanted, &default));
 }
 
 // A request for the MAC address in a value of four bytes, and an unknown tag.
-fn build(buffer: &mut [u8]) {
+fn build_request(buffer: &mut [u8]) {
     let start = builder::start(buffer).cursor;
     let second = builder::add(buffer, start, MAC_ADDRESS, 4, &[]).cursor;
     let end = builder::add(buffer, second, UNKNOWN, 4, &[]).cursor;
     builder::finish(buffer, end);
 }
 
-fn show_reply(reply: &[u8]) {
-    show(b"MAC address in 4 bytes, 4 wanted", reply, MAC_ADDRESS, 4);
-    show(b"5 wanted", reply, MAC_ADDRESS, 5);
-    show(b"6 wanted", reply, MAC_ADDRESS, 6);
-    show(b"0 wanted", reply, MAC_ADDRESS, 0);
-    show(b"no such tag", reply, SERIAL, 4);
-    show(b"not answered", reply, UNKNOWN, 0);
-    show(b"lent 11", prefix(reply, 11), MAC_ADDRESS, 4);
+fn draw_reply(reply: &[u8]) {
+    draw_or(b"MAC address in 4 bytes, 4 wanted", reply, MAC_ADDRESS, 4);
+    draw_or(b"5 wanted", reply, MAC_ADDRESS, 5);
+    draw_or(b"6 wanted", reply, MAC_ADDRESS, 6);
+    draw_or(b"0 wanted", reply, MAC_ADDRESS, 0);
+    draw_or(b"no such tag", reply, SERIAL, 4);
+    draw_or(b"not answered", reply, UNKNOWN, 0);
+    draw_or(b"lent 11", prefix(reply, 11), MAC_ADDRESS, 4);
 }
 
 pub fn cases()
     ensures { λ r. ⌜ r ≡ tt ⌝ }
 {
     let mut lent = [0u8; 48];
-    build(&mut lent);
-    show(b"MAC address not served", &lent, MAC_ADDRESS, 4);
+    build_request(&mut lent);
+    draw_or(b"MAC address not served", &lent, MAC_ADDRESS, 4);
     respond(bench_record(), &mut lent);
-    show_reply(&lent);
+    draw_reply(&lent);
 }

@@ -1,11 +1,11 @@
 // Messages that are kept and asked several times.
-use crate::print;
+use crate::lines;
 use board::bench::bench_record;
-use console::number;
-use console::text;
+use console::print_number;
+use console::print_text;
 use message::builder;
 use message::builder::Cursor;
-use message::reader::Sought;
+use message::reader::Question;
 use message::reader::read_two;
 use message::reader::whole_answer;
 use responder::respond::respond;
@@ -22,12 +22,12 @@ const LINE: u32 = 0x0005_0001;
 const UNKNOWN: u32 = 7;
 
 // The cursor behind a tag that has room for an answer of so many bytes.
-fn add(buffer: &mut [u8], cursor: Cursor, id: u32, size: u32) -> Cursor {
+fn add_tag(buffer: &mut [u8], cursor: Cursor, id: u32, size: u32) -> Cursor {
     builder::add(buffer, cursor, id, size, &[]).cursor
 }
 
-fn sought(id: u32, occurrence: usize, wanted: usize) -> Sought {
-    Sought {
+fn question(id: u32, occurrence: usize, wanted: usize) -> Question {
+    Question {
         id,
         occurrence,
         wanted,
@@ -35,68 +35,68 @@ fn sought(id: u32, occurrence: usize, wanted: usize) -> Sought {
 }
 
 // One kept message is asked for two tags.
-fn two(name: &[u8], bytes: &[u8], first: Sought, second: Sought) {
-    let readings = read_two(bytes, first, second);
-    print::reading(name, readings.first);
-    print::reading(name, readings.second);
+fn draw_two(name: &[u8], bytes: &[u8], one: Question, other: Question) {
+    let readings = read_two(bytes, one, other);
+    lines::of_reading(name, readings.one);
+    lines::of_reading(name, readings.other);
 }
 
 // One kept message is asked for the length of an answer and for its bytes, which are counted.
-fn whole(name: &[u8], bytes: &[u8], id: u32, occurrence: usize) {
+fn draw_whole(name: &[u8], bytes: &[u8], id: u32, occurrence: usize) {
     let answer = whole_answer(bytes, id, occurrence);
-    text(name);
-    number(b": ", answer.len() as u64);
-    text(b" bytes\n");
+    print_text(name);
+    print_number(b": ", answer.len() as u64);
+    print_text(b" bytes\n");
 }
 
 // What the message shows once it is served: tags that are there once, twice and not at all.
-fn readings(bytes: &[u8]) {
-    two(
+fn draw_readings(bytes: &[u8]) {
+    draw_two(
         b"MAC address, model",
         bytes,
-        sought(MAC, 0, 6),
-        sought(MODEL, 0, 4),
+        question(MAC, 0, 6),
+        question(MODEL, 0, 4),
     );
-    two(
-        b"second MAC address, 4 and 6 bytes",
+    draw_two(
+        b"other MAC address, 4 and 6 bytes",
         bytes,
-        sought(MAC, 1, 4),
-        sought(MAC, 1, 6),
+        question(MAC, 1, 4),
+        question(MAC, 1, 6),
     );
-    two(
+    draw_two(
         b"third MAC address, revision",
         bytes,
-        sought(MAC, 2, 0),
-        sought(REVISION, 0, 0),
+        question(MAC, 2, 0),
+        question(REVISION, 0, 0),
     );
-    two(
+    draw_two(
         b"unknown tag, id 0",
         bytes,
-        sought(UNKNOWN, 0, 0),
-        sought(0, 0, 0),
+        question(UNKNOWN, 0, 0),
+        question(0, 0, 0),
     );
-    whole(b"whole MAC address", bytes, MAC, 0);
-    whole(b"whole second MAC address", bytes, MAC, 1);
-    whole(b"whole unknown tag", bytes, UNKNOWN, 0);
+    draw_whole(b"whole MAC address", bytes, MAC, 0);
+    draw_whole(b"whole other MAC address", bytes, MAC, 1);
+    draw_whole(b"whole unknown tag", bytes, UNKNOWN, 0);
 }
 
 // The same of its command line, which has 51 bytes.
-fn line_readings(bytes: &[u8]) {
-    two(
+fn draw_line(bytes: &[u8]) {
+    draw_two(
         b"command line, 0 and 51 bytes",
         bytes,
-        sought(LINE, 0, 0),
-        sought(LINE, 0, 51),
+        question(LINE, 0, 0),
+        question(LINE, 0, 51),
     );
-    two(
+    draw_two(
         b"command line, 52 and 64 bytes",
         bytes,
-        sought(LINE, 0, 52),
-        sought(LINE, 0, 64),
+        question(LINE, 0, 52),
+        question(LINE, 0, 64),
     );
-    whole(b"whole command line", bytes, LINE, 0);
-    text(whole_answer(bytes, LINE, 0));
-    text(b"\n");
+    draw_whole(b"whole command line", bytes, LINE, 0);
+    print_text(whole_answer(bytes, LINE, 0));
+    print_text(b"\n");
 }
 
 // A message that asks for the MAC address with room for six bytes and for four, the model, an
@@ -105,21 +105,21 @@ pub fn cases()
     ensures { λ r. ⌜ r ≡ tt ⌝ }
 {
     let mut buffer = [0u8; 160];
-    let first = builder::start(&buffer).cursor;
-    let mac = add(&mut buffer, first, MAC, 6);
-    let short = add(&mut buffer, mac, MAC, 4);
-    let model = add(&mut buffer, short, MODEL, 4);
-    let unknown = add(&mut buffer, model, UNKNOWN, 0);
-    let line = add(&mut buffer, unknown, LINE, 64);
-    print::finished(b"to be kept", builder::finish(&mut buffer, line));
-    two(
+    let one = builder::start(&buffer).cursor;
+    let mac = add_tag(&mut buffer, one, MAC, 6);
+    let short = add_tag(&mut buffer, mac, MAC, 4);
+    let model = add_tag(&mut buffer, short, MODEL, 4);
+    let unknown = add_tag(&mut buffer, model, UNKNOWN, 0);
+    let line = add_tag(&mut buffer, unknown, LINE, 64);
+    lines::of_finished(b"to be kept", builder::finish(&mut buffer, line));
+    draw_two(
         b"not served",
         &buffer,
-        sought(MAC, 0, 6),
-        sought(MODEL, 0, 4),
+        question(MAC, 0, 6),
+        question(MODEL, 0, 4),
     );
     let served = respond(bench_record(), &mut buffer);
-    print::served(b"served, and kept", served.outcome, served.place);
-    readings(&buffer);
-    line_readings(&buffer);
+    lines::of_served(b"served, and kept", served.outcome, served.place);
+    draw_readings(&buffer);
+    draw_line(&buffer);
 }

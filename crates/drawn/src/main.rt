@@ -4,22 +4,22 @@ mod answered;
 mod built;
 mod defaults;
 mod kept;
+mod lines;
 mod listed;
 mod messages;
-mod print;
 
 fn main() {
     listed::cases();
-    built::largest();
-    built::screen();
-    built::refusals();
+    built::largest_request();
+    built::screen_request();
+    built::refused_calls();
     answered::eleven();
     answered::invalid();
-    answered::long(b"size 65532", 65532);
-    answered::long(b"size 65536", 65536);
-    answered::long(b"size 65540", 65540);
+    answered::long_message(b"size 65532", 65532);
+    answered::long_message(b"size 65536", 65536);
+    answered::long_message(b"size 65540", 65540);
     built::largest_served();
     defaults::cases();
     kept::cases();
-    messages::run();
+    messages::serve_input();
 }

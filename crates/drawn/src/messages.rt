@@ -1,10 +1,10 @@
 // Messages from standard input, one to a line: `-` and a name, a colon, and words in hexadecimal. A
 // message is served on the bench record, or, with `+` for `-`, on the record that the one before it
 // left. Any other line is copied.
-use crate::answered::serve;
+use crate::answered::serve_and_draw;
 use board::bench::bench_record;
 use board::record::Board;
-use console::text;
+use console::print_text;
 use libc::STDIN_FILENO;
 use words::numbers::put_u32;
 use words::numbers::u32_at;
@@ -14,7 +14,7 @@ ghost use lib.ListN.{length};
 ghost use Rattle.io.specs.Counts.{Counts};
 
 // The place of the first such byte from `at` on, or the end.
-fn find(bytes: &[u8], at: usize, byte: u8) -> usize
+fn position_of(bytes: &[u8], at: usize, byte: u8) -> usize
     requires { ⌜ at ≤ length (now bytes) ⌝ }
     ensures { λ r. ⌜ (at ≤ r) × Counts r (now (bytes .entry)) ⌝ }
 {
@@ -70,25 +70,25 @@ fn put_words(bytes: &mut [u8], words: &[u8]) -> usize
     n
 }
 
-fn message(board: Board, line: &[u8]) -> Board {
-    let colon = find(line, 0, b':');
+fn serve_message(board: Board, line: &[u8]) -> Board {
+    let colon = position_of(line, 0, b':');
     let mut buffer = [0u8; 256];
     let n = put_words(&mut buffer, &line[colon..]);
-    serve(&line[..colon], board, &mut buffer[..n])
+    serve_and_draw(&line[..colon], board, &mut buffer[..n])
 }
 
 // Takes a line, and gives the record for the next.
-fn take(board: Board, line: &[u8]) -> Board {
+fn take_line(board: Board, line: &[u8]) -> Board {
     if line.len() > 0 {
         if line[0] == b'-' {
-            return message(bench_record(), line);
+            return serve_message(bench_record(), line);
         }
         if line[0] == b'+' {
-            return message(board, line);
+            return serve_message(board, line);
         }
     }
-    text(line);
-    text(b"\n");
+    print_text(line);
+    print_text(b"\n");
     board
 }
 
@@ -96,13 +96,13 @@ fn take_lines(lines: &[u8]) {
     let mut board = bench_record();
     let mut at = 0;
     while at < lines.len() {
-        let end = find(lines, at, b'\n');
-        board = take(board, &lines[at..end]);
+        let end = position_of(lines, at, b'\n');
+        board = take_line(board, &lines[at..end]);
         at = end + 1;
     }
 }
 
-pub fn run()
+pub fn serve_input()
     ensures { λ r. ⌜ r ≡ tt ⌝ }
 {
     let mut buffer = io::large_buffer();

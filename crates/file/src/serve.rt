@@ -49,7 +49,7 @@ fn print_line(n: u32) {
 
 // Serves the bytes that were read, writes them back where they can have changed, and prints the
 // outcome.
-fn answer(path: &[u8], bytes: &mut [u8]) {
+fn serve_read(path: &[u8], bytes: &mut [u8]) {
     let outcome = serve_bytes(bytes);
     if is_rewritten(outcome) {
         if !write_back(path, bytes) {
@@ -69,7 +69,7 @@ fn serve_open(path: &[u8], file: i32) {
             return;
         }
     }
-    answer(path, &mut buffer[..n]);
+    serve_read(path, &mut buffer[..n]);
 }
 
 // Serves a message file on the bench record, writes it back in place, and prints the outcome as a

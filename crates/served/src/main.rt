@@ -12,13 +12,13 @@ fn make_long(path: &[u8]) {
 
 // How many bytes there are, and the words of the first 80.
 fn show_bytes(bytes: &[u8]) {
-    console::number(b"bytes ", bytes.len() as u64);
-    console::text(b":");
+    console::print_number(b"bytes ", bytes.len() as u64);
+    console::print_text(b":");
     let n = io::count(80, bytes);
-    console::words_of(&bytes[..n]);
+    console::print_words(&bytes[..n]);
 }
 
-fn show(path: &[u8]) {
+fn show_file(path: &[u8]) {
     let file = os::open_read(path);
     if file < 0 {
         os::fail(path);
@@ -31,10 +31,10 @@ fn show(path: &[u8]) {
 }
 
 fn serve_and_show(path: &[u8]) {
-    console::text(path);
-    console::text(b"\n");
+    console::print_text(path);
+    console::print_text(b"\n");
     serve_file(path);
-    show(path);
+    show_file(path);
 }
 
 fn main() {

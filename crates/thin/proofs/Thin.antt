@@ -252,8 +252,8 @@ module _ (B : Datum) (S : Declared) (L : LL.Laws S) (returned : Member S L B) (p
       abbrev bound : Way .Ghost
       bound = (((κ, (κ′, (κ″, tt))), (q, (q′, (q″, tt))), tt, (x, (y, (z, tt))), (ptr-vals x, (slice-vals y, (ptr-vals z, tt)))), i)
 
-      walk : ent 𝓤 (Way .pre bound) (WpFn 𝓤 H C Λ code (Way .args bound) (Way .post bound))
-      walk =
+      code-walk : ent 𝓤 (Way .pre bound) (WpFn 𝓤 H C Λ code (Way .args bound) (Way .post bound))
+      code-walk =
           qed W (((‵ (flft κ q) ⊛ ‵ (flft κ′ q′) ⊛ ‵ (flft κ″ q″) ⊛ ‵ ftrue) ⊛ ‵ (MutRef erased κ (B .row) .own x (ptr-vals x))
           ⊛ ‵ (MutSlice erased κ′ u8 .own y (slice-vals y)) ⊛ ‵ (MutRef erased κ″ u32 .own z (ptr-vals z)) ⊛ ‵ ftrue)
           ∷ raw (c (bound .0 .0) (bound .0 .3) .requires i) ∷ []) ∵ split ! $ split3 ! $ move ! (3 ∷ []) $ split3 ! $ move ! (2 ∷ []) $ split ! $
@@ -301,5 +301,5 @@ module _ (B : Datum) (S : Declared) (L : LL.Laws S) (returned : Member S L B) (p
       (goes-ref 𝓤 H (𝓖 .A) W 3 0 tt (slot (B .row)), (goes-gave-slice 𝓤 H (𝓖 .A) W 3 1 tt (slot u8), (goes-ref 𝓤 H (𝓖 .A) W 3 2 tt (slot u32), tt)))
       c (λ C Λ fm known. walked 𝓤 H (𝓖 .A) on-loan stayed c (WpFn 𝓤 H C Λ code) (λ κs. (ptr-vals, (slice-vals, (ptr-vals, tt))))
       (λ κs. (mut-tells (named 0) (κs .0) (B .row), (mut-slice-tells (named 1) (κs .1 .0) u8, (mut-tells (named 2) (κs .1 .1 .0) u32, tt))))
-      (λ κs qs bounds a i are. walk 𝓤 H (𝓖 .A) W C Λ fm known c so (κs .0) (κs .1 .0) (κs .1 .1 .0) (qs .0) (qs .1 .0) (qs .1 .1 .0)
+      (λ κs qs bounds a i are. code-walk 𝓤 H (𝓖 .A) W C Λ fm known c so (κs .0) (κs .1 .0) (κs .1 .1 .0) (qs .0) (qs .1 .0) (qs .1 .1 .0)
       (a .0) (a .1 .0) (a .1 .1 .0) i (are .1 .0 .0 .1)))

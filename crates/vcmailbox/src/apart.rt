@@ -50,14 +50,14 @@ pub extern "C" fn vc_read(
     ensures { λ r. ⌜ record {
       outcome = r;
       place = now (place .exit);
-      length = now (answer .exit);
+      total = now (answer .exit);
       value = now (value .exit);
       count = now (count .exit);
     } ≡ found (now (message .entry)) id occurrence wanted ⌝ }
 {
     let reading = read(message, id, occurrence, wanted);
     *place = reading.place as u32;
-    *answer = reading.length;
+    *answer = reading.total;
     *value = reading.value as u32;
     *count = reading.count as u32;
     reading.outcome

@@ -11,7 +11,8 @@ pub fn one_bit(a: u32) -> bool
     u32::count_ones(a) == 1
 }
 
-// The lowest multiple of the alignment at or above the base: it may pass 2^32.
+// The lowest multiple of the alignment at or above the base: it may pass 2^32. No entry point: for an
+// alignment that has one bit set.
 pub fn lowest_multiple(base: u32, alignment: u32) -> u64
     requires { ⌜ oneBit alignment ≡ true ⌝ }
     ensures { λ r. ⌜ r ≡ roundUp alignment base ⌝ }

@@ -50,7 +50,8 @@ pub fn read(lent: &[u8], id: u32, occurrence: usize, wanted: usize) -> Reading {
     }
 }
 
-/// The outcome, and the wanted bytes where they stand in the message, or on any refusal the default.
+/// The outcome of the same reading, and its bytes: those wanted, as a part of `lent`, or on any refusal
+/// the whole of `default`.
 pub fn read_or<'a>(
     lent: &'a [u8],
     id: u32,
@@ -58,9 +59,12 @@ pub fn read_or<'a>(
     wanted: usize,
     default: &'a [u8],
 ) -> (u32, &'a [u8]) {
-    let Reading { outcome, value, count, .. } = read(lent, id, occurrence, wanted);
-    let shown = if outcome == DONE { &lent[value..value + count] } else { default };
-    (outcome, shown)
+    let reading = read(lent, id, occurrence, wanted);
+    let shown = match reading.outcome {
+        DONE => &lent[reading.value..reading.value + reading.count],
+        _ => default,
+    };
+    (reading.outcome, shown)
 }
 
 fn answered_tag(lent: &[u8], id: u32, occurrence: usize) -> Result<Tag, (u32, usize)> {

@@ -132,22 +132,54 @@ fn reading_a_reply() {
 
 #[test]
 fn reading_with_a_default() {
-    let mut reply = message(&[0x0001_0003, 4, 0, 0, 2, 4, 0, 0]);
-    let default = [1, 2, 3, 4, 5, 6];
-    let mut shown = |served: bool, id, wanted| {
-        if served {
-            respond(&mut board(), &mut reply);
-        }
-        let (outcome, bytes) = read_or(&reply, id, 0, wanted, &default);
-        (outcome, bytes.to_vec(), bytes.as_ptr() == default.as_ptr())
+    let default = [0xD1, 0xD2, 0xD3];
+    // The same bytes at the same address, so none is a copy.
+    let check = |lent: &[u8], (id, occurrence, wanted), outcome, shown: &[u8]| {
+        let (given, bytes) = read_or(lent, id, occurrence, wanted, &default);
+        assert_eq!((given, bytes.as_ptr_range()), (outcome, shown.as_ptr_range()));
     };
-    let refused = |outcome| (outcome, default.to_vec(), true);
-    assert_eq!(shown(false, 0x0001_0003, 4), refused(10));
-    assert_eq!(shown(true, 0x0001_0003, 4), (0, vec![0xB8, 0x27, 0xEB, 0x12], false));
-    assert_eq!(shown(false, 0x0001_0003, 0), (0, vec![], false));
-    assert_eq!(shown(false, 0x0001_0003, 5), refused(13));
-    assert_eq!(shown(false, 0x0001_0001, 4), refused(11));
-    assert_eq!(shown(false, 2, 0), refused(12));
+
+    // Id 7: 5 answer bytes in a value of 8, 6 in one of 4, a tag unanswered. Id 9: an empty answer.
+    let long = [7, 8, 0x8000_0005, 0x0403_0201, 0x0807_0605];
+    let short = [7, 4, 0x8000_0006, 0x0C0B_0A09];
+    let rest = [7, 4, 0, 0, 9, 0, 0x8000_0000];
+    let mut request = message(&[&long[..], &short, &rest].concat());
+    let mut reply = request.clone();
+    reply[7] = 0x80;
+    let end = reply.len() - 4;
+
+    assert_eq!(read_or(&reply, 7, 0, 5, &default), (0, &[1, 2, 3, 4, 5][..]));
+    assert_eq!(read_or(&reply, 7, 2, 5, &default), (12, &default[..]));
+    check(&reply, (7, 0, 5), 0, &reply[20..25]);
+    check(&reply, (7, 0, 2), 0, &reply[20..22]);
+    check(&reply, (7, 1, 4), 0, &reply[40..44]);
+    check(&reply[..11], (7, 0, 5), 1, &default);
+    check(&reply[..end], (7, 0, 5), 2, &default);
+    check(&request, (7, 0, 5), 10, &default);
+    check(&reply, (7, 3, 4), 11, &default);
+    check(&reply, (8, 0, 4), 11, &default);
+    check(&reply, (7, 2, 4), 12, &default);
+    check(&reply, (7, 0, 6), 13, &default);
+    check(&reply, (7, 1, 5), 13, &default);
+    check(&reply, (9, 0, usize::MAX), 13, &default);
+
+    // Nothing wanted: an empty part at the value, on a refusal the default all the same.
+    check(&reply, (7, 0, 0), 0, &reply[20..20]);
+    check(&reply, (9, 0, 0), 0, &reply[end..end]);
+    check(&reply, (7, 2, 0), 12, &default);
+    check(&reply[..11], (7, 0, 0), 1, &default);
+
+    // The code word of a failure reads alike.
+    request[4..8].copy_from_slice(&[1, 0, 0, 0x80]);
+    check(&request, (7, 0, 5), 0, &request[20..25]);
+
+    // A fault shows only where the walk comes to it.
+    let endless = bytes(&[24, 0x8000_0000, 7, 4, 0x8000_0004, 1]);
+    check(&endless, (7, 0, 4), 0, &endless[20..24]);
+    check(&endless, (7, 1, 4), 4, &default);
+    let over = bytes(&[36, 0x8000_0001, 7, 4, 0x8000_0004, 1, 7, 4, 0x8000_0004]);
+    check(&over, (7, 0, 4), 0, &over[20..24]);
+    check(&over, (7, 1, 4), 5, &default);
 }
 
 #[test]

@@ -53,7 +53,8 @@ module _ (m : List ℕ) (c : ℕ) (adds : List Add) (w : Whole m c adds) where
 
   shows : (i : ℕ) → i < length adds → Shows m i (valueOffset adds i) (getD adds i noAdd)
   shows i l =
-      let r : IsAdd m (valueOffset adds i) (getD adds i noAdd) (listed m i) = rw (listed-is i) (rows m (word m 0) c (w .inside) (w .end) adds header (w .holds) i l) in
+      let r : IsAdd m (valueOffset adds i) (getD adds i noAdd) (listed m i) =
+      rw (listed-is i) (rows m (word m 0) c (w .inside) (w .end) adds header (w .holds) i l) in
       record { row = r .row; value = r .value }
 
   pub lists : Lists m adds

@@ -66,10 +66,10 @@ module _ (t : Tag) (answer : List ℕ) (short : length answer < 2 ^ 31) where
   stored-is = ap (λ (n : ℕ). min n (t .size)) (sym length-is)
 
   pub judged-shows : (wanted : ℕ) → wanted ≤ min (length answer) (t .size)
-      → judged (tagAfter t (says answer)) wanted ≡ record { outcome = done; place = 0; length = length answer; value = t .at + tagHeader; count = wanted }
+      → judged (tagAfter t (says answer)) wanted ≡ record { outcome = done; place = 0; total = length answer; value = t .at + tagHeader; count = wanted }
   judged-shows wanted l =
       sym (judged-done (tagAfter t (says answer)) wanted (omega arith) stored-is l)
-      ∙ ap (λ (n : ℕ). record { outcome = done; place = 0; length = n; value = t .at + tagHeader; count = wanted }) length-is
+      ∙ ap (λ (n : ℕ). record { outcome = done; place = 0; total = n; value = t .at + tagHeader; count = wanted }) length-is
 
   pub judged-lacks : (wanted : ℕ) → min (length answer) (t .size) < wanted → judged (tagAfter t (says answer)) wanted ≡ unread fewerStored 0
   judged-lacks wanted l = sym (judged-fewer (tagAfter t (says answer)) wanted (omega arith) stored-is l refl)

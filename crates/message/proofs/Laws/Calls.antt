@@ -13,7 +13,7 @@ use denote.Laws.{Is, Copy}
 use denote.Ref.{now}
 use denote.Signature.{namedLft}
 use denote.Struct.Laws as LL
-use Rattle.message.proofs.Laws.Asked.{Promise, Asking, Slice, sought, of-slice, of-reader}
+use Rattle.message.proofs.Laws.HandCall.{Promise, CallShape, Slice, questionParameters, of-slice, of-reader}
 use Rattle.message.proofs.reader.Reader as T
 use Rattle.message.proofs.reader.Reader.Laws as T′
 use Rattle.message.proofs.reader.Reading as S
@@ -21,21 +21,21 @@ use Rattle.message.specs.Reader.{found, view, shownPart}
 use Rattle.message.specs.declared.reader.Reader.{Reader}
 
 -- what `read` and `part` promise, as functions and as methods
-abbrev pub read-promise : Promise Slice (λ κs. S.the-row) sought
+abbrev pub read-promise : Promise Slice (λ κs. S.the-row) questionParameters
 read-promise κs s n r = r ≡ found (now s) (n .0) (n .1 .0) (n .1 .1 .0)
 
-abbrev pub part-promise : Promise Slice Slice sought
+abbrev pub part-promise : Promise Slice Slice questionParameters
 part-promise κs s n r = view r ≡ shownPart s (found (now s) (n .0) (n .1 .0) (n .1 .1 .0))
 
 -- `open`, and the methods
-abbrev pub open-call : Asking
+abbrev pub open-call : CallShape
 open-call = of-slice [] (λ κs. T.the-row (namedLft 1 0 tt κs)) (λ κs s n r. r .bytes ≡ s)
 
-abbrev pub read-call : Asking
-read-call = of-reader sought (λ κs. S.the-row) read-promise
+abbrev pub read-call : CallShape
+read-call = of-reader questionParameters (λ κs. S.the-row) read-promise
 
-abbrev pub part-call : Asking
-part-call = of-reader sought Slice part-promise
+abbrev pub part-call : CallShape
+part-call = of-reader questionParameters Slice part-promise
 
 module _ {M : Type 1} {𝓤 : URA M} {H : Heap 𝓤} {A : Atoms 𝓤} (W : Given 𝓤 H A) (κ : Lft) where
   -- a reader is Copy

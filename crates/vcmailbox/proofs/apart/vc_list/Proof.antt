@@ -1,5 +1,5 @@
 use borrow.Author.Needs.{needs}
-use Rattle.vcmailbox.proofs.Fits.{list-place, list-value}
+use Rattle.vcmailbox.proofs.Fits.{list-place-fits, list-value-fits}
 use Rattle.vcmailbox.proofs.apart.vc_list.Statement.{statement}
 use Rattle.vcmailbox.proofs.apart.vc_list.Tie as tie
 
@@ -7,10 +7,10 @@ list-requires : tie.Need-list-requires
 list-requires c κs = search needs
 
 cast-place : tie.Need-cast-place
-cast-place c = search (list-place, list-value)
+cast-place c = search (list-place-fits, list-value-fits)
 
 cast-value : tie.Need-cast-value
-cast-value c = search (list-place, list-value)
+cast-value c = search (list-place-fits, list-value-fits)
 
 returns : tie.Need-returns
 returns c = c .before .before .list .ensures

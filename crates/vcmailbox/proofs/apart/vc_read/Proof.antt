@@ -1,5 +1,5 @@
 use borrow.Author.Needs.{needs}
-use Rattle.vcmailbox.proofs.Fits.{read-place, read-value, read-count}
+use Rattle.vcmailbox.proofs.Fits.{read-place-fits, read-value-fits, read-count-fits}
 use Rattle.vcmailbox.proofs.apart.vc_read.Statement.{statement}
 use Rattle.vcmailbox.proofs.apart.vc_read.Tie as tie
 
@@ -7,13 +7,13 @@ read-requires : tie.Need-read-requires
 read-requires c κs = search needs
 
 cast-place : tie.Need-cast-place
-cast-place c = search (read-place, read-value, read-count)
+cast-place c = search (read-place-fits, read-value-fits, read-count-fits)
 
 cast-value : tie.Need-cast-value
-cast-value c = search (read-place, read-value, read-count)
+cast-value c = search (read-place-fits, read-value-fits, read-count-fits)
 
 cast-count : tie.Need-cast-count
-cast-count c = search (read-place, read-value, read-count)
+cast-count c = search (read-place-fits, read-value-fits, read-count-fits)
 
 returns : tie.Need-returns
 returns c = c .before .before .before .read .ensures

@@ -1,6 +1,6 @@
 use borrow.Author.Needs.{needs}
 use Rattle.message.proofs.Laws.Shown.{part-within, read-done, read-default}
-use Rattle.vcmailbox.proofs.Fits.{read-end}
+use Rattle.vcmailbox.proofs.Fits.{read-end-fits}
 use Rattle.vcmailbox.proofs.apart.vc_read_or.Statement.{statement}
 use Rattle.vcmailbox.proofs.apart.vc_read_or.Tie as tie
 
@@ -8,7 +8,7 @@ read-requires : tie.Need-read-requires
 read-requires c κs = search needs
 
 add-end : tie.Need-add-end
-add-end c = search read-end
+add-end c = search read-end-fits
 
 sub-shown : tie.Need-sub-shown
 sub-shown c = search needs

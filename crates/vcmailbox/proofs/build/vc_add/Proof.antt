@@ -1,5 +1,5 @@
 use borrow.Author.Needs.{needs}
-use Rattle.vcmailbox.proofs.Fits.{add-cursor}
+use Rattle.vcmailbox.proofs.Fits.{add-cursor-fits}
 use Rattle.vcmailbox.proofs.Laws.{add-given}
 use Rattle.vcmailbox.proofs.build.vc_add.Statement.{statement}
 use Rattle.vcmailbox.proofs.build.vc_add.Tie as tie
@@ -8,7 +8,8 @@ add-requires : tie.Need-add-requires
 add-requires c κs = search needs
 
 cast-cursor : tie.Need-cast-cursor
-cast-cursor c = add-cursor _ _ _ _ _ (c .before .before .before .before .add .ensures) (c .before .before .before .before .before .before .row-known .given)
+cast-cursor c =
+    add-cursor-fits _ _ _ _ _ (c .before .before .before .before .add .ensures) (c .before .before .before .before .before .before .row-known .given)
 
 same-length : tie.Need-same-length
 same-length c = search needs

@@ -1,5 +1,5 @@
 use borrow.Author.Needs.{needs}
-use Rattle.vcmailbox.proofs.Fits.{finish-size}
+use Rattle.vcmailbox.proofs.Fits.{finish-size-fits}
 use Rattle.vcmailbox.proofs.Laws.{finish-given}
 use Rattle.vcmailbox.proofs.build.vc_finish.Statement.{statement}
 use Rattle.vcmailbox.proofs.build.vc_finish.Tie as tie
@@ -8,7 +8,7 @@ finish-requires : tie.Need-finish-requires
 finish-requires c κs = search needs
 
 cast-size : tie.Need-cast-size
-cast-size c = finish-size _ _ (c .before .before .before .finish .ensures)
+cast-size c = finish-size-fits _ _ (c .before .before .before .finish .ensures)
 
 same-length : tie.Need-same-length
 same-length c = search needs

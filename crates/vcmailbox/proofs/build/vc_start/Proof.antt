@@ -1,5 +1,5 @@
 use borrow.Author.Needs.{needs}
-use Rattle.vcmailbox.proofs.Fits.{start-cursor}
+use Rattle.vcmailbox.proofs.Fits.{start-cursor-fits}
 use Rattle.vcmailbox.proofs.Laws.{start-given}
 use Rattle.vcmailbox.proofs.build.vc_start.Statement.{statement}
 use Rattle.vcmailbox.proofs.build.vc_start.Tie as tie
@@ -8,7 +8,7 @@ start-requires : tie.Need-start-requires
 start-requires c κs = search needs
 
 cast-cursor : tie.Need-cast-cursor
-cast-cursor c = start-cursor _ (c .before .before .start .ensures)
+cast-cursor c = start-cursor-fits _ (c .before .before .start .ensures)
 
 returns : tie.Need-returns
 returns c = search start-given

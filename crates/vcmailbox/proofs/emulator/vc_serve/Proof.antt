@@ -13,7 +13,7 @@ use Rattle.responder.proofs.respond.respond.Met as callee-thm
 use Rattle.responder.proofs.respond.respond.Symbol as callee-def
 use Rattle.responder.specs.Reply.{reply}
 use Rattle.thin.proofs.Thin.{Datum, Member, of-struct, of-width, thin-keeps}
-use Rattle.vcmailbox.proofs.Fits.{serve-place}
+use Rattle.vcmailbox.proofs.Fits.{serve-place-fits}
 use Rattle.vcmailbox.proofs.emulator.vc_serve as f
 use Rattle.vcmailbox.proofs.emulator.vc_serve.Code as code
 use Rattle.vcmailbox.proofs.emulator.vc_serve.Key.{name}
@@ -34,6 +34,6 @@ board = record { of = λ r. r .board; number = 2; offset = 16; lies = refl; valu
 pub vc-serve-spec : {M : Type 1} → statement M
 unfolding code.routine
 vc-serve-spec 𝓤 H 𝓜 𝓖 𝓡 =
-    thin-keeps B S.the-type S′.the-laws board place outcome (λ h ys r zs. leaves zs r ≡ reply h ys) serve-place callee-def.name
+    thin-keeps B S.the-type S′.the-laws board place outcome (λ h ys r zs. leaves zs r ≡ reply h ys) serve-place-fits callee-def.name
     𝓤 H 𝓜 𝓖 𝓡 code.env name (code.unfolded 𝓤 H 𝓜 𝓡) callee-def.routine code.calls-responder·respond·respond (callee-thm.met 𝓤 H 𝓜 𝓖 𝓡)
     (f.clauses 𝓤 H (𝓖 .A) (𝓜 .mem) (𝓡 .run)) (λ κs a _ r zs e. factI 𝓤 _ (emp 𝓤) e)

@@ -2,8 +2,8 @@ use Rattle.drawn.proofs.Laws.Counting.{counted}
 use borrow.Author.Needs.{needs}
 use Prim.Native.Nat.{_-_, _≤_}
 use lib.ListN.{length}
-use Rattle.drawn.proofs.messages.find.Statement.{statement}
-use Rattle.drawn.proofs.messages.find.Tie as tie
+use Rattle.drawn.proofs.messages.position_of.Statement.{statement}
+use Rattle.drawn.proofs.messages.position_of.Tie as tie
 
 abbrev Inv-loop : tie.InvT-loop
 Inv-loop bytes at byte i₀ i = (at ≤ i) × (i ≤ length bytes)
@@ -32,8 +32,8 @@ loop-again c = search needs
 returns-2 : tie.Need-returns-2 Inv-loop μ-loop
 returns-2 c = search counted
 
-pub find-spec : {M : Type 1} → statement M
-find-spec =
+pub position-of-spec : {M : Type 1} → statement M
+position-of-spec =
     tie.close
     (tie.spec
     Inv-loop
