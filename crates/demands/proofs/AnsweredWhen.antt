@@ -7,7 +7,6 @@ use Prim.Native.Nat.{ℕ, zero, suc, _≤_, _<_}
 use native.Mathlib.Omega.{arith}
 use lib.ListN.{length, getD}
 use Rattle.words.specs.Numbers.{word}
-use Rattle.message.proofs.Laws.Follows.{follows}
 use Rattle.message.specs.Outcomes.{done}
 use Rattle.message.specs.Sizes.{header}
 use Rattle.message.specs.declared.walk.Tag.{Tag}
@@ -19,22 +18,16 @@ use Rattle.tags.specs.Outside.{outsideAnswer}
 use Rattle.display.specs.Decision.{groupAnswer}
 use Rattle.display.specs.declared.decision.Decision.{Decision}
 use Rattle.requests.proofs.Laws.Endings.{ending-outcome}
-use Rattle.requests.specs.Requests.{Request, passed, short, asks, valueOf, requestBytes, requestOf, trail, WalkOutcome}
+use Rattle.requests.specs.Requests.{Request, passed, short, asks, valueOf, requestBytes, requestOf, WalkOutcome}
 use Rattle.responder.specs.Answers.{turnOf}
 use Rattle.responder.specs.Reply.{served, reply}
-use Rattle.responder.specs.Turns.{silent, says, Turn, turns}
-use Rattle.demands.proofs.Laws.Cuts.{has-asked, asks-known, CutAt, cut-before, cut-behind, cut-none, cut-at}
+use Rattle.responder.specs.Turns.{silent, says}
+use Rattle.demands.proofs.Laws.Cuts.{has-asked, asks-known, CutAt, cut-before, cut-behind, cut-none}
 use Rattle.demands.proofs.Laws.Mixed.{answered-faultless, answered-apart, apart-answered}
+use Rattle.demands.proofs.Laws.TurnAt.{TurnAt, turn-of, cut-there}
 use Rattle.demands.proofs.Laws.Replied.{Replied, untouched, walked, replied, clash}
 use Rattle.demands.specs.AnsweredWhen.{testOf, Answerable, AnsweredWhen}
-use Rattle.demands.specs.Terms.{noTag, walkOf, tagOf, trailOf, decisionOf, saidAt, Answered, Faultless}
-
--- ---- what the tag of an index says is its turn on some state
-turn-at : {S : Type 0} (turn : S → Request → Turn S) → ((s : S) → turn s passed .said ≡ silent) → (s : S) (rs : List Request) (i : ℕ)
-    → (s′ : S) × (getD (turns turn s rs .saids) i silent ≡ turn s′ (getD rs i passed) .said)
-turn-at turn quiet s [] i = (s, sym (quiet s))
-turn-at turn quiet s (r ∷ rs) zero = (s, refl)
-turn-at turn quiet s (r ∷ rs) (suc i) = turn-at turn quiet (turn s r .state) rs i
+use Rattle.demands.specs.Terms.{noTag, walkOf, tagOf, trailOf, decisionOf, Answered, Faultless}
 
 -- which turns say something: outside the group every one, in it those of a group that is answered
 abbrev Speaks : Decision → Request → Type 0
@@ -74,13 +67,11 @@ module _ (b : Board) (m : List ℕ) (i : ℕ) where
   abbrev r : Request
   r = getD (trailOf m .requests) i passed
 
-  said-at : (b′ : Board) × (saidAt b m i ≡ turnOf (decisionOf b m) b′ r .said)
-  unfolding turnOf
-  said-at = turn-at (turnOf (decisionOf b m)) (λ x. refl) b (trailOf m .requests) i
+  said-at : TurnAt b m (λ (x : Board). Unit {0}) i
+  said-at = turn-of b m (λ (x : Board). Unit {0}) (λ x y p. tt) tt i
 
   there : CutAt m t (trailOf m) r
-  unfolding trail
-  there = cut-at m (word m 0) header (walkOf m .tags) (walkOf m .ending) (follows m (word m 0) header) i
+  there = cut-there m i
 
   -- ---- of a message that is walked
   module _ (is : reply b m ≡ served b m (word m 0)) where
@@ -108,7 +99,7 @@ module _ (b : Board) (m : List ℕ) (i : ℕ) where
             let h = has-asked m t e in
             record {
               known = (Kind.Outside k, h .least, h .row);
-              request = h .clear;
+              bit-clear = h .clear;
               before = stands o;
               group = λ w. let z : Row.Known (Kind.Outside k) (h .least) ≡ Row.Known (Kind.Group (w .0)) (w .1) = sym (h .row) ∙ w .2 in
                   absurd (true≢false cc);
@@ -117,7 +108,7 @@ module _ (b : Board) (m : List ℕ) (i : ℕ) where
             let h = has-asked m t e in
             record {
               known = (Kind.Group k, h .least, h .row);
-              request = h .clear;
+              bit-clear = h .clear;
               before = stands o;
               group = λ w. (
                 outcome-is ∙ answered-faultless (b .display) (trailOf m .ending) (trailOf m .requests) x,
@@ -147,7 +138,7 @@ module _ (b : Board) (m : List ℕ) (i : ℕ) where
         go : CutAt m t (trailOf m) r → Speaks (decisionOf b m) r
         go (cut-before q ns o) =
             let k = a .known in
-            let e = q ∙ asks-known m t (k .2) (a .request) ns in
+            let e = q ∙ asks-known m t (k .2) (a .bit-clear) ns in
             rw e (asked (k .0) (k .1) (k .2) (requestBytes (k .0) (k .1) (t .size) (valueOf m t)) e)
         go (cut-behind q nd l) = absurd (late (a .before) nd l)
         go (cut-none q z) = let k = a .known in absurd (no-row (rw z at (k .2)))
@@ -158,7 +149,7 @@ module _ (b : Board) (m : List ℕ) (i : ℕ) where
     where
       go : Replied b m → Answerable b m t
       go (untouched o e f z) = absurd (clash (reply b m .answer .outcome) (a .0) o)
-      go (walked v g e) = answerable e (speaks (decisionOf b m) (said-at .0) r (sym (said-at .1) ∙ a .1 .1))
+      go (walked v g e) = answerable e (speaks (decisionOf b m) (said-at .board) r (sym (said-at .said) ∙ a .1 .1))
 
   pub has-answered : Answerable b m t → Answered b m i
   has-answered a = go (replied b m)
@@ -170,8 +161,8 @@ module _ (b : Board) (m : List ℕ) (i : ℕ) where
       go : Replied b m → Answered b m i
       go (untouched o e f z) = absurd (clash (reply b m .answer .outcome) (early (a .before) z) o)
       go (walked v g e) =
-          let s = spoken (decisionOf b m) (said-at .0) r (answers e a) in
-          (rw (outcome-is e) (ending-outcome m (word m 0) header), (s .0, said-at .1 ∙ s .1))
+          let s = spoken (decisionOf b m) (said-at .board) r (answers e a) in
+          (rw (outcome-is e) (ending-outcome m (word m 0) header), (s .0, said-at .said ∙ s .1))
 
 pub answered-when : AnsweredWhen
 answered-when b m i = (answered-has b m i, has-answered b m i)

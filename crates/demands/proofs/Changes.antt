@@ -1,6 +1,6 @@
 -- What a call changes of a message.
 use mathlib.Core.List.{List, [], _∷_}
-use mathlib.Core.Logic.{inl, inr}
+use mathlib.Core.Logic.{_⊎_, inl, inr}
 use mathlib.Core.Path.{_≡_, refl, _∙_}
 use Prim.Native.Nat.{ℕ, _+_, min}
 use native.Mathlib.Omega.{arith}
@@ -13,11 +13,12 @@ use Rattle.message.specs.Walk.{wordPlace}
 use Rattle.message.specs.declared.walk.Tag.{Tag}
 use Rattle.answers.specs.Writing.{answered}
 use Rattle.requests.proofs.Laws.Endings.{ending-outcome}
+use Rattle.requests.specs.Requests.{WalkOutcome}
 use Rattle.responder.proofs.Laws.Written.{writes-length}
 use Rattle.responder.specs.Reply.{writeAll, codeOf, served, reply}
 use Rattle.responder.specs.Turns.{Said, silent, says}
 use Rattle.demands.proofs.Laws.Replied.{Replied, untouched, walked, replied, clash}
-use Rattle.demands.specs.Changes.{NotAmong, Unanswered, Changes, SameLength, Untouched, Refusals}
+use Rattle.demands.specs.Changes.{Refusal, Numbered, NotAmong, InNoAnswer, Changes, SameLength, Untouched, Refusals}
 use Rattle.demands.specs.Terms.{trailOf, answersOf}
 
 -- ---- writes
@@ -33,7 +34,7 @@ answered-outside at size answer m i w v =
     put-outside (at + tagHeader) (take size answer) (put (at + wordPlace) (le 4 (0x8000_0000 + length answer)) m) i (min (length answer) size) l v
     ∙ put-outside (at + wordPlace) (le 4 (0x8000_0000 + length answer)) m i 4 refl w
 
-writes-outside : (ts : List Tag) (ss : List Said) (m : List ℕ) (i : ℕ) → Unanswered ts ss i → getD (writeAll ts ss m) i 0 ≡ getD m i 0
+writes-outside : (ts : List Tag) (ss : List Said) (m : List ℕ) (i : ℕ) → InNoAnswer ts ss i → getD (writeAll ts ss m) i 0 ≡ getD m i 0
 writes-outside [] ss m i u = refl
 writes-outside (t ∷ ts) [] m i u = refl
 writes-outside (t ∷ ts) (silent ∷ ss) m i u = writes-outside ts ss m i u
@@ -69,3 +70,11 @@ refusals b m o = go (replied b m)
     go (walked v g e) =
         let s : reply b m .answer .outcome ≡ trailOf m .ending .outcome = rw e in
         absurd (clash (trailOf m .ending .outcome) (ending-outcome m (word m 0) header) (rw s at o))
+
+pub numbered : Numbered
+unfolding served
+numbered b m = go (replied b m)
+  where
+    go : Replied b m → WalkOutcome (reply b m .answer .outcome) ⊎ Refusal (reply b m .answer .outcome)
+    go (untouched o e f z) = inr o
+    go (walked v g e) = inl (rw e (ending-outcome m (word m 0) header))

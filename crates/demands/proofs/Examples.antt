@@ -22,8 +22,8 @@ use Rattle.display.specs.Operation.{withSetting, noted}
 use Rattle.requests.specs.Requests.{requestBytes, requestBy, requestOf, trail}
 use Rattle.responder.specs.Answers.{groupOf, turnOf}
 use Rattle.responder.specs.Reply.{served, reply}
-use Rattle.demands.specs.Examples.{Examples, right, cases}
+use Rattle.demands.specs.Examples.{Examples, comesOut, cases}
 
 pub examples : Examples
-unfolding right cases reply served valid validFacts validState validDevice validClock validVoltage validBuffer validDisplay supported possible sides depths offsets pitch need bench opened goodSize numberAt trail walkFrom step overruns tagAt requestOf requestBy requestBytes rowOf table outsideTags groupTags groupOf decided accepted allocatable fitsBuffer placedAt oneBit onesIn supportedFrom nthWord noted withSetting turnOf outsideAnswer outsideAfter factAnswer placeOf settled clockAfter clockValue present groupAnswer answered maxOffset minOffset
+unfolding comesOut cases reply served valid validFacts validState validDevice validClock validVoltage validBuffer validDisplay supported possible sides depths offsets pitch need bench opened goodSize numberAt trail walkFrom step overruns tagAt requestOf requestBy requestBytes rowOf table outsideTags groupTags groupOf decided accepted allocatable fitsBuffer placedAt oneBit onesIn supportedFrom nthWord noted withSetting turnOf outsideAnswer outsideAfter factAnswer placeOf settled clockAfter clockValue present groupAnswer answered maxOffset minOffset
 examples = tt

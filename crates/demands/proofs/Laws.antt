@@ -4,6 +4,7 @@ pub mod Lists
 pub mod Alike
 pub mod Sought
 pub mod Cuts
+pub mod TurnAt
 pub mod Mixed
 pub mod ReadBack
 pub mod Replied

@@ -8,6 +8,7 @@ pub mod ListingMet
 pub mod Walked
 pub mod ReadingBack
 pub mod AnsweredWhen
+pub mod DisplayKept
 pub mod LongerValues
 pub mod ServedMet
 pub mod LongerValuesMet

@@ -110,7 +110,7 @@ ends-alike e e′ d d′ =
 -- ---- the claim
 module _ (b : Board) (m m′ : List ℕ) (p : AlikeButLonger b m m′) where
   a : Alike m m′ (walkOf m .tags) (walkOf m′ .tags)
-  a = alike-by-index m m′ (walkOf m .tags) (walkOf m′ .tags) (p .ids) (p .words) (p .requests) (p .longer)
+  a = alike-by-index m m′ (walkOf m .tags) (walkOf m′ .tags) (p .same-ids) (p .words-before) (p .same-requests) (p .longer)
 
   f : Served-faultless b m
   f = served-faultless b m (p .faultless)
@@ -178,7 +178,7 @@ module _ (b : Board) (m m′ : List ℕ) (p : AlikeButLonger b m m′) where
         rw (stored-answer b m (p .faultless) i l answer e, stored-answer b m′ (p .faultless′) i l′ answer e′)
         (begins-take n (storedCount m′ i answer) answer (longer n (omega arith)) (omega arith))
 
-    shown-alike : (wanted : ℕ) → readingAt b m i wanted .outcome ≡ done → ShownAlike b m m′ (readingAt b m i wanted) (readingAt b m′ i wanted)
+    shown-alike : (wanted : ℕ) → readingAt b m i wanted .outcome ≡ done → ShownAlike b m m′ wanted (readingAt b m i wanted) (readingAt b m′ i wanted)
     shown-alike wanted z = go (ltb (storedCount m i answer) wanted) refl
       where
         read-first : ReadsAnswer b m i answer
@@ -187,14 +187,15 @@ module _ (b : Board) (m m′ : List ℕ) (p : AlikeButLonger b m m′) where
         read-second : ReadsAnswer b m′ i answer
         read-second = read-at b m′ (p .faultless′) i l′ answer e′
 
-        go : (c : Bool) → ltb (storedCount m i answer) wanted ≡ c → ShownAlike b m m′ (readingAt b m i wanted) (readingAt b m′ i wanted)
+        go : (c : Bool) → ltb (storedCount m i answer) wanted ≡ c → ShownAlike b m m′ wanted (readingAt b m i wanted) (readingAt b m′ i wanted)
         go true q = let k = ap (λ (r : Reading). r .outcome) (read-first .fewer wanted (ltb-true _ _ q)) in absurd (omega arith)
         go false q =
             let n = ltb-false _ _ q in
             rw (read-first .shows wanted n, read-second .shows wanted (longer wanted n)) (record {
-              outcome = refl;
-              total = refl;
-              bytes = read-second .bytes wanted (longer wanted n) ∙ sym (read-first .bytes wanted n);
+              is-done = refl;
+              as-many = refl;
+              same-total = refl;
+              same-bytes = read-second .bytes wanted (longer wanted n) ∙ sym (read-first .bytes wanted n);
             })
 
   -- the reader, by the tag that it seeks
@@ -226,11 +227,11 @@ module _ (b : Board) (m m′ : List ℕ) (p : AlikeButLonger b m m′) where
 
   pub served-alike : ServedAlike b m m′
   served-alike = record {
-    board = board-same;
-    tags = walked-is b m (inl (p .faultless));
-    tags′ = walked-is b m′ (inl (p .faultless′));
-    words = words-same;
-    stored = λ i w. begins i (answered-inside b m i w) (w .1 .0) (w .1 .1);
+    same-board = board-same;
+    tags-after = walked-is b m (inl (p .faultless));
+    tags-after′ = walked-is b m′ (inl (p .faultless′));
+    words-after = words-same;
+    begins = λ i w. begins i (answered-inside b m i w) (w .1 .0) (w .1 .1);
     read = read-alike;
   }
 

@@ -74,14 +74,14 @@ longer-alike =
     longer-values bench severalTags longer (record {
       faultless = several-done;
       faultless′ = longer-done;
-      ids = refl;
-      words = refl;
-      requests = requests;
+      same-ids = refl;
+      words-before = refl;
+      same-requests = requests;
       longer = values;
     })
 
 -- the reader, asked for the four first bytes of the MAC address, shows the same of both
-pub mac-alike : ShownAlike bench severalTags longer (readingOf bench severalTags 0x00010003 0 4) (readingOf bench longer 0x00010003 0 4)
+pub mac-alike : ShownAlike bench severalTags longer 4 (readingOf bench severalTags 0x00010003 0 4) (readingOf bench longer 0x00010003 0 4)
 unfolding numberAt walkFrom step overruns tagAt
 mac-alike =
     let reading = several-read .answer-read 0 (lit< tt) macBytes mac-said .shows 4 (lit≤ tt) in

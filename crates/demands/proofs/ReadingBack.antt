@@ -21,7 +21,7 @@ use Rattle.message.specs.Sizes.{header, tagHeader, codePlace}
 use Rattle.message.specs.Walk.{walkFrom}
 use Rattle.message.specs.declared.opening.Opened.{Opened}
 use Rattle.board.specs.declared.record.Board.{Board}
-use Rattle.responder.specs.Reply.{codeOf, reply}
+use Rattle.responder.specs.Reply.{codeOf, served, reply}
 use Rattle.responder.specs.Turns.{Said, silent, says}
 use Rattle.responder.proofs.Laws.Saids.{SaidFits, saids-fit}
 use Rattle.responder.proofs.Laws.Turns.{Each}
@@ -30,7 +30,8 @@ use Rattle.demands.proofs.Laws.ReadBack.{nth-at, judged-shows, judged-l
 use Rattle.demands.proofs.Laws.Sought.{sought-tag}
 use Rattle.demands.proofs.Laws.Replied.{Replied, untouched, walked, replied, clash}
 use Rattle.demands.proofs.Walked.{filled, codeBytes, replyBytes, served-bytes, size-same, follows-reply}
-use Rattle.demands.specs.ReadingBack.{occurrence, EveryTagSought, Reads, ReadingBack}
+use Rattle.demands.specs.Changes.{CodeWord}
+use Rattle.demands.specs.ReadingBack.{occurrenceAt, EveryTagSought, Reads, ReadingBack}
 use Rattle.demands.specs.Terms.{walkOf, tagOf, trailOf, decisionOf, answersOf, saidAt}
 use Rattle.demands.specs.Walked.{tagAfter, tagsAfter}
 
@@ -59,7 +60,7 @@ module _ (b : Board) (m : List ℕ) (g : GoodSize (word m 0) (length m)) where
       let good : GoodSize (word left 0) (length left) = rw (z, n) g in
       opened-good left good ∙ ap (λ (x : ℕ). Opened.Good (record { size = x })) z
 
-  code-is : word left codePlace ≡ codeOf (trailOf m .ending .outcome)
+  pub code-is : word left codePlace ≡ codeOf (trailOf m .ending .outcome)
   code-is = go (eqb (trailOf m .ending .outcome) done)
     where
       n : length (filled b m g) ≡ length m
@@ -84,9 +85,9 @@ module _ (b : Board) (m : List ℕ) (g : GoodSize (word m 0) (length m)) where
   found-left id n wanted = found-response left opens response id n wanted ∙ ap (foundIn id n wanted) walk-left
 
   judged-left : (i : ℕ) → i < length (walkOf m .tags) → (wanted : ℕ)
-      → found left (tagOf m i .id) (occurrence m i) wanted ≡ judged (tagAfter (tagOf m i) (saidAt b m i)) wanted
+      → found left (tagOf m i .id) (occurrenceAt m i) wanted ≡ judged (tagAfter (tagOf m i) (saidAt b m i)) wanted
   judged-left i l wanted =
-      found-judged left opens response (tagOf m i .id) (occurrence m i) wanted (tagAfter (tagOf m i) (saidAt b m i))
+      found-judged left opens response (tagOf m i .id) (occurrenceAt m i) wanted (tagAfter (tagOf m i) (saidAt b m i))
       (rw walk-left (nth-at (tagOf m i .id) (walkOf m .tags) (answersOf b m) i l refl))
 
   value-left : (i : ℕ) → i < length (walkOf m .tags) → {answer : List ℕ} → saidAt b m i ≡ says answer → (k : ℕ) → k ≤ min (length answer) (tagOf m i .size)
@@ -100,15 +101,15 @@ module _ (b : Board) (m : List ℕ) (g : GoodSize (word m 0) (length m)) where
     pub reads-left : Reads b m
     reads-left = record {
       answer-read = λ i l answer e. record {
-        shows = λ wanted q. ap (λ (x : List ℕ). found x (tagOf m i .id) (occurrence m i) wanted) is ∙ judged-left i l wanted ∙ ap (λ (s : Said).
+        shows = λ wanted q. ap (λ (x : List ℕ). found x (tagOf m i .id) (occurrenceAt m i) wanted) is ∙ judged-left i l wanted ∙ ap (λ (s : Said).
             judged (tagAfter (tagOf m i) s) wanted) e
             ∙ judged-shows (tagOf m i) answer (answer-fits b m i e) wanted q;
         bytes = λ wanted q. ap (λ (x : List ℕ). take wanted (drop (tagOf m i .at + tagHeader) x)) is ∙ value-left i l e wanted q;
-        fewer = λ wanted q. ap (λ (x : List ℕ). found x (tagOf m i .id) (occurrence m i) wanted) is ∙ judged-left i l wanted ∙ ap (λ (s : Said).
+        fewer = λ wanted q. ap (λ (x : List ℕ). found x (tagOf m i .id) (occurrenceAt m i) wanted) is ∙ judged-left i l wanted ∙ ap (λ (s : Said).
             judged (tagAfter (tagOf m i) s) wanted) e
             ∙ judged-lacks (tagOf m i) answer (answer-fits b m i e) wanted q;
       };
-      passed-over = λ i l e w wanted. ap (λ (x : List ℕ). found x (tagOf m i .id) (occurrence m i) wanted) is ∙ judged-left i l wanted ∙ ap (λ (s : Said).
+      unanswered-read = λ i l e w wanted. ap (λ (x : List ℕ). found x (tagOf m i .id) (occurrenceAt m i) wanted) is ∙ judged-left i l wanted ∙ ap (λ (s : Said).
           judged (tagAfter (tagOf m i) s) wanted) e
           ∙ sym (judged-not-answered (tagOf m i) wanted w refl);
     }
@@ -122,3 +123,13 @@ reads b m w = go (replied b m)
 
 pub every-tag-sought : EveryTagSought
 every-tag-sought m i l = sought-tag (walkOf m .tags) i l
+
+pub code-word : CodeWord
+unfolding served
+code-word b m w = go (replied b m)
+  where
+    go : Replied b m → word (reply b m .bytes) codePlace ≡ codeOf (reply b m .answer .outcome)
+    go (untouched o e f z) = absurd (clash (reply b m .answer .outcome) w o)
+    go (walked v g e) =
+        ap (λ (x : List ℕ). word x codePlace) (ap (λ (r : _). r .bytes) e ∙ served-bytes b m g)
+        ∙ code-is b m g ∙ sym (ap (λ (r : _). codeOf (r .answer .outcome)) e)

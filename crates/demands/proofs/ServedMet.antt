@@ -2,17 +2,18 @@
 -- unknown tag, and a depth that is set and asked; one whose operation is refused, with a release; one that mixes a test with a set; and
 -- messages that are refused.
 use mathlib.Core.Bool.{true, false, true≢false}
-use mathlib.Core.List.{List, [], _∷_, map}
-use mathlib.Core.Logic.{inl, inr}
+use mathlib.Core.List.{List, [], _∷_}
+use mathlib.Core.Logic.{_⊎_, inl, inr}
 use mathlib.Core.Path.{_≡_, refl, ap}
 use Prim.Native.Nat.{ℕ, zero, suc}
 use lib.Count.{onesIn}
 use lib.Dec.{lit≤, lit<}
 use lib.ListN.{length, getD, take}
 use Rattle.words.specs.Align.{oneBit}
-use Rattle.words.specs.Numbers.{numberAt, nthWord, wordBytes}
+use Rattle.words.specs.Numbers.{numberAt, word, nthWord, wordBytes}
 use Rattle.message.specs.Opening.{goodSize, opened}
 use Rattle.message.specs.Outcomes.{done}
+use Rattle.message.specs.Sizes.{codePlace}
 use Rattle.message.specs.Walk.{tagAt, overruns, step, walkFrom}
 use Rattle.message.specs.declared.walk.Tag.{Tag}
 use Rattle.board.proofs.Laws.Bench.{bench-valid}
@@ -23,7 +24,7 @@ use Rattle.board.specs.Facts.{validFacts}
 use Rattle.board.specs.Items.{validState, validDevice}
 use Rattle.board.specs.Record.{withDevices, withDisplay, valid}
 use Rattle.board.specs.declared.record.Board.{Board}
-use Rattle.table.specs.Table.{Entry, factKind, outsideTags, groupTags, table, rowOf}
+use Rattle.table.specs.Table.{factKind, outsideTags, groupTags, table, rowOf}
 use Rattle.table.specs.declared.kinds.FactTag.{FactTag}
 use Rattle.table.specs.declared.kinds.FrameTag.{FrameTag}
 use Rattle.table.specs.declared.kinds.Kind.{Kind}
@@ -32,21 +33,21 @@ use Rattle.tags.specs.Fact.{factAnswer}
 use Rattle.tags.specs.Outside.{outsideAnswer, outsideAfter}
 use Rattle.display.specs.Decision.{supportedFrom, placedAt, allocatable, fitsBuffer, accepted, decided, groupAnswer}
 use Rattle.display.specs.Operation.{withSetting, noted}
-use Rattle.display.specs.declared.decision.Decision.{Decision}
-use Rattle.requests.specs.Requests.{passed, asks, requestBytes, requestBy, requestOf, trail}
+use Rattle.requests.specs.Requests.{passed, asks, requestBytes, requestBy, requestOf, trail, WalkOutcome}
 use Rattle.responder.specs.Answers.{groupOf, turnOf}
 use Rattle.responder.specs.Reply.{served, reply}
 use Rattle.responder.specs.Turns.{Said, silent, says}
 use Rattle.demands.proofs.AnswerLengths.{answer-lengths}
 use Rattle.demands.proofs.AnsweredWhen.{answered-when}
-use Rattle.demands.proofs.Changes.{changes, same-length, refusals}
+use Rattle.demands.proofs.Changes.{numbered, changes, same-length, refusals}
+use Rattle.demands.proofs.DisplayKept.{display-kept}
 use Rattle.demands.proofs.Kept.{kept}
-use Rattle.demands.proofs.ReadingBack.{every-tag-sought, reads}
+use Rattle.demands.proofs.ReadingBack.{every-tag-sought, code-word, reads}
 use Rattle.demands.proofs.Walked.{walked-is}
-use Rattle.demands.specs.AnswerLengths.{HasArrays, answerBy, rowLength}
+use Rattle.demands.specs.AnswerLengths.{HasArrays, lengthIn}
 use Rattle.demands.specs.AnsweredWhen.{AsksGroup, Mixes}
-use Rattle.demands.specs.Changes.{Untouched}
-use Rattle.demands.specs.ReadingBack.{occurrence, sought, Reads}
+use Rattle.demands.specs.Changes.{Refusal, Untouched}
+use Rattle.demands.specs.ReadingBack.{occurrenceAt, sought, Reads}
 use Rattle.demands.specs.Terms.{tagOf, trailOf, answersOf, saidAt, Answered}
 use Rattle.demands.specs.Walked.{LeavesTags}
 
@@ -91,11 +92,14 @@ several-value =
     changes bench severalTags 36 (inr (lit≤ tt))
     (rw (several-trail, several-answers) (inr (lit≤ tt), inr (lit≤ tt), (inl (lit< tt), inl (lit< tt), (inl (lit< tt), inl (lit< tt), tt))))
 
--- `Walked`, `EveryTagSought` and `ReadingBack`
+-- `CodeWord`, `Walked`, `EveryTagSought` and `ReadingBack`
+pub several-code : word (reply bench severalTags .bytes) codePlace ≡ 0x8000_0000
+several-code = rw several-done at (code-word bench severalTags (inl several-done))
+
 pub several-tags : LeavesTags bench severalTags
 several-tags = walked-is bench severalTags (inl several-done)
 
-pub several-sought : sought severalTags (tagOf severalTags 3 .id) (occurrence severalTags 3) ≡ 3
+pub several-sought : sought severalTags (tagOf severalTags 3 .id) (occurrenceAt severalTags 3) ≡ 3
 unfolding numberAt walkFrom step overruns tagAt
 several-sought = every-tag-sought severalTags 3 (lit< tt)
 
@@ -107,9 +111,8 @@ pub bench-arrays : HasArrays bench
 unfolding bench
 bench-arrays = record { mac = refl; line = refl }
 
-pub bench-lengths : (g : Decision) (request : List ℕ)
-    → map (λ (e : Entry). length (answerBy g bench (e .kind) request)) table ≡ map (rowLength bench) table
-bench-lengths g request = answer-lengths g bench request bench-arrays
+pub mac-length : length macBytes ≡ lengthIn (bench .facts .characters) (tagOf severalTags 0 .id) table
+mac-length = answer-lengths bench severalTags bench-arrays 0 macBytes mac-said
 
 -- `AnsweredWhen`: the MAC address is answered, by what the rule asks; the unknown tag is not
 pub mac-answered : Answered bench severalTags 0
@@ -117,7 +120,7 @@ unfolding numberAt walkFrom step overruns tagAt rowOf table outsideTags groupTag
 mac-answered =
     answered-when bench severalTags 0 .1 (record {
       known = (factKind FactTag.Mac, 0, refl);
-      request = lit< tt;
+      bit-clear = lit< tt;
       before = inl several-done;
       group = λ w. absurd (true≢false cc);
     })
@@ -134,16 +137,16 @@ standingBuffer = withDisplay bench (record {
   buffer = record { base = 0x3C000000; size = 1536000 };
 })
 
-buffer-valid : valid standingBuffer ≡ true
+standing-valid : valid standingBuffer ≡ true
 unfolding bench validDisplay validBuffer supported possible sides depths offsets pitch need
-buffer-valid = display-valid bench (standingBuffer .display) bench-valid refl
+standing-valid = display-valid bench (standingBuffer .display) bench-valid refl
 
 abbrev pub releaseRefused : List ℕ
 releaseRefused = wordBytes (40 ∷ 0 ∷ 0x00048001 ∷ 0 ∷ 0 ∷ 0x00048005 ∷ 4 ∷ 0 ∷ 7 ∷ 0 ∷ [])
 
 refused-done : reply standingBuffer releaseRefused .answer .outcome ≡ done
 unfolding reply served opened goodSize numberAt trail walkFrom step overruns tagAt requestOf requestBy requestBytes rowOf table outsideTags groupTags
-refused-done = rw buffer-valid
+refused-done = rw standing-valid
 
 refused-asks : trailOf releaseRefused .requests
     ≡ asks (Kind.Group FrameTag.Release) [] ∷ asks (Kind.Group (FrameTag.Set Setting.Depth)) (7 ∷ 0 ∷ 0 ∷ 0 ∷ []) ∷ []
@@ -165,14 +168,14 @@ unfolding numberAt walkFrom step overruns tagAt rowOf table outsideTags groupTag
 release-answered =
     answered-when standingBuffer releaseRefused 0 .1 (record {
       known = (Kind.Group FrameTag.Release, 0, refl);
-      request = lit< tt;
+      bit-clear = lit< tt;
       before = inl refused-done;
       group = λ w. (refused-done, refused-apart);
     })
 
 pub release-left : (saidAt standingBuffer releaseRefused 0 ≡ says []) × (reply standingBuffer releaseRefused .answer .board ≡ standingBuffer)
 unfolding reply served opened goodSize bench numberAt trail walkFrom step overruns tagAt requestOf requestBy requestBytes rowOf table outsideTags groupTags groupOf decided accepted allocatable fitsBuffer placedAt oneBit onesIn supportedFrom nthWord noted withSetting turnOf groupAnswer supported possible sides depths offsets pitch need
-release-left = (refl, rw buffer-valid)
+release-left = (refl, rw standing-valid)
 
 -- ---- test depth, set depth: mixed, and neither is answered
 abbrev pub testBesideSet : List ℕ
@@ -183,9 +186,17 @@ unfolding numberAt trail walkFrom step overruns tagAt requestOf requestBy reques
 mixed-silent a =
     answered-when bench testBesideSet 1 .0 a .group (FrameTag.Set Setting.Depth, 4, refl) .1 ((0, refl), (1, refl))
 
--- ---- `Refusals`: eleven bytes; a size of 14; a code word of 1; a record with an absent device that is on
+-- `DisplayKept`: so the depth stays
+pub mixed-kept : reply bench testBesideSet .answer .board .display ≡ bench .display
+unfolding numberAt trail walkFrom step overruns tagAt requestOf requestBy requestBytes rowOf table outsideTags groupTags
+mixed-kept = display-kept bench testBesideSet (inr (inl ((0, refl), (1, refl))))
+
+-- ---- `Numbered` and `Refusals`: eleven bytes; a size of 14; a code word of 1; a record with an absent device that is on
 abbrev eleven : List ℕ
 eleven = take 11 (wordBytes (12 ∷ 0 ∷ 0 ∷ []))
+
+pub eleven-numbered : WalkOutcome (reply bench eleven .answer .outcome) ⊎ Refusal (reply bench eleven .answer .outcome)
+eleven-numbered = numbered bench eleven
 
 pub eleven-untouched : Untouched bench eleven
 unfolding reply opened

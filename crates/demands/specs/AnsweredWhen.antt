@@ -16,14 +16,15 @@ use Rattle.requests.specs.Requests.{Request, passed, short, asks}
 use Rattle.responder.specs.Reply.{reply}
 use Rattle.demands.specs.Terms.{tagOf, trailOf, Answered, Faultless}
 
--- the id is known; it is one of the group
-abbrev pub Known : (id : ℕ) → Type 0
-Known id = (kind : Kind) × (least : ℕ) × (rowOf id ≡ Row.Known kind least)
+-- the id is known
+abbrev pub IsKnown : (id : ℕ) → Type 0
+IsKnown id = (kind : Kind) × (least : ℕ) × (rowOf id ≡ Row.Known kind least)
 
+-- the id is one of the group
 abbrev pub OfGroup : (id : ℕ) → Type 0
 OfGroup id = (tag : FrameTag) × (least : ℕ) × (rowOf id ≡ Row.Known (Kind.Group tag) least)
 
--- a request asks the group for a test; it asks the group for something else
+-- a tag of the group is a test
 abbrev pub testOf : FrameTag → Bool
 testOf (FrameTag.Test s) = true
 testOf (FrameTag.Get s) = false
@@ -32,6 +33,7 @@ testOf FrameTag.Pitch = false
 testOf FrameTag.Allocate = false
 testOf FrameTag.Release = false
 
+-- a request asks the group for a test, or for something else
 abbrev pub AsksGroup : (test : Bool) → Request → Type 0
 AsksGroup test passed = ⊥
 AsksGroup test short = ⊥
@@ -47,10 +49,10 @@ Mixes m =
 -- what a tag has that is answered
 pub record Answerable (b : Board) (m : List ℕ) (t : Tag) : Type 0 where
   -- a known id
-  pub known : Known (t .id)
+  pub known : IsKnown (t .id)
   -- a word that came with bit 31 clear
-  pub request : t .word < 0x8000_0000
-  -- no fault, or one behind it
+  pub bit-clear : t .word < 0x8000_0000
+  -- no fault, or one behind it; a refused message has neither, since its place is 0
   pub before : Faultless b m ⊎ (t .at < reply b m .answer .place)
   -- where it is one of the group: no fault at all, and an operation that does not mix tests with other tags
   pub group : OfGroup (t .id) → Faultless b m × (Mixes m → ⊥)

@@ -46,14 +46,14 @@ abbrev pub isReply : Call Served → (outcome place : ℕ) (words : List ℕ) �
 isReply r outcome place words =
     eqb (r .answer .outcome) outcome && eqb (r .answer .place) place && equal (r .bytes) (wordBytes words)
 
-unfoldable pub right : Case → Bool
-right (serves earlier given outcome place gives) =
+unfoldable pub comesOut : Case → Bool
+comesOut (serves earlier given outcome place gives) =
     isReply (reply (boardAfter bench earlier) (wordBytes given)) outcome place gives
-right (leavesSettings given gives afterwards) =
+comesOut (leavesSettings given gives afterwards) =
     let r = reply bench (wordBytes given) in
     isReply r done 0 gives && equal (numbersOf (r .answer .board .display .settings)) (numbersOf afterwards)
-right (hasPitch width depth pitch) = eqb (pitchOf width depth) pitch
-right (hasOffsets millivolts maximum minimum) =
+comesOut (hasPitch width depth pitch) = eqb (pitchOf width depth) pitch
+comesOut (hasOffsets millivolts maximum minimum) =
     eqb (maxOffset millivolts) maximum && eqb (minOffset millivolts) minimum
 
 -- 640 x 480, depth 24
@@ -107,4 +107,4 @@ cases =
 
 -- Every case comes out as it says.
 abbrev pub Examples : Type 0
-Examples = T (every right cases)
+Examples = T (every comesOut cases)

@@ -5,6 +5,7 @@ pub mod Kept
 pub mod Changes
 pub mod AnsweredWhen
 pub mod AnswerLengths
+pub mod DisplayKept
 pub mod Walked
 pub mod ReadingBack
 pub mod LongerValues

@@ -65,7 +65,7 @@ valueOffset adds i = placeBehind header (take i adds) + tagHeader
 -- the lister's i-th tag of m is the add: id, value size, tag word 0, and its value offset, where the request bytes
 -- stand, then zeros to the value's size
 pub record Shows (m : List ℕ) (i offset : ℕ) (a : Add) : Type 0 where
-  pub row : listed m i ≡ record {
+  pub as-listed : listed m i ≡ record {
     outcome = done;
     place = 0;
     id = a .id;
@@ -81,7 +81,7 @@ noAdd = record { id = 0; size = 0; request = [] }
 -- the lister shows exactly these adds, in order, and 11 behind the last
 pub record Lists (m : List ℕ) (adds : List Add) : Type 0 where
   pub each : (i : ℕ) → i < length adds → Shows m i (valueOffset adds i) (getD adds i noAdd)
-  pub last : (i : ℕ) → length adds ≤ i → listed m i ≡ unlisted noSuchTag 0
+  pub behind-last : (i : ℕ) → length adds ≤ i → listed m i ≡ unlisted noSuchTag 0
 
 -- ids and sizes are words
 abbrev pub AreWords : List Add → Type 0

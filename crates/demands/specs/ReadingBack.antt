@@ -19,31 +19,31 @@ use Rattle.demands.specs.Terms.{walkOf, tagOf, saidAt}
 -- ---- questions
 -- what the reader gives of what the responder left of m
 abbrev pub readingOf : Board → List ℕ → (id occurrence wanted : ℕ) → Reading
-readingOf b m id n wanted = found (reply b m .bytes) id n wanted
+readingOf b m id occurrence wanted = found (reply b m .bytes) id occurrence wanted
 
 -- the occurrence of the tag of an index: how many tags before it have its id
-abbrev pub occurrence : List ℕ → ℕ → ℕ
-occurrence m i = length (withId (tagOf m i .id) (take i (walkOf m .tags)))
+abbrev pub occurrenceAt : List ℕ → ℕ → ℕ
+occurrenceAt m i = length (withId (tagOf m i .id) (take i (walkOf m .tags)))
 
--- the index of the tag that a reader seeks: of those with this id the n-th, from 0; behind the last where there is none
-abbrev pub soughtIn : (id n : ℕ) → List Tag → ℕ
+-- the index of the tag that a reader seeks, by its id and its occurrence, from 0; behind the last where there is none
+abbrev pub soughtIn : (id occurrence : ℕ) → List Tag → ℕ
 soughtIn id n [] = 0
 soughtIn id zero (t ∷ ts) = cond (eqb (t .id) id) 0 (suc (soughtIn id zero ts))
 soughtIn id (suc n) (t ∷ ts) = suc (soughtIn id (cond (eqb (t .id) id) n (suc n)) ts)
 
-abbrev pub sought : List ℕ → (id n : ℕ) → ℕ
-sought m id n = soughtIn id n (walkOf m .tags)
+abbrev pub sought : List ℕ → (id occurrence : ℕ) → ℕ
+sought m id occurrence = soughtIn id occurrence (walkOf m .tags)
 
 -- Every tag of a message is sought so, by its id and its occurrence.
 abbrev pub EveryTagSought : Type 0
-EveryTagSought = (m : List ℕ) (i : ℕ) → i < length (walkOf m .tags) → sought m (tagOf m i .id) (occurrence m i) ≡ i
+EveryTagSought = (m : List ℕ) (i : ℕ) → i < length (walkOf m .tags) → sought m (tagOf m i .id) (occurrenceAt m i) ≡ i
 
 -- ---- reading what was stored
 -- what the reader gives of the tag of an index, asked for its id and its occurrence
 abbrev pub readingAt : Board → List ℕ → (i wanted : ℕ) → Reading
-readingAt b m i wanted = readingOf b m (tagOf m i .id) (occurrence m i) wanted
+readingAt b m i wanted = readingOf b m (tagOf m i .id) (occurrenceAt m i) wanted
 
--- the bytes that the responder stored of a tag's answer, from the first on
+-- so many bytes of the value of the tag of an index, as the responder left them
 abbrev pub storedAt : Board → List ℕ → (i count : ℕ) → List ℕ
 storedAt b m i count = take count (drop (tagOf m i .at + tagHeader) (reply b m .bytes))
 
@@ -63,12 +63,12 @@ pub record ReadsAnswer (b : Board) (m : List ℕ) (i : ℕ) (answer : List ℕ) 
   pub bytes : (wanted : ℕ) → wanted ≤ storedCount m i answer → storedAt b m i wanted ≡ take wanted answer
   pub fewer : (wanted : ℕ) → storedCount m i answer < wanted → readingAt b m i wanted ≡ unread fewerStored 0
 
--- Where the responder walked the message: each tag that it answered is read so, and a request tag that it passed over
--- is read with 12.
+-- Where the responder walked the message: each tag that it answered is read so, and a tag that came with bit 31 clear
+-- and was not answered is read with 12.
 pub record Reads (b : Board) (m : List ℕ) : Type 0 where
   pub answer-read : (i : ℕ) → i < length (walkOf m .tags)
       → (answer : List ℕ) → saidAt b m i ≡ says answer → ReadsAnswer b m i answer
-  pub passed-over : (i : ℕ) → i < length (walkOf m .tags)
+  pub unanswered-read : (i : ℕ) → i < length (walkOf m .tags)
       → saidAt b m i ≡ silent → tagOf m i .word < 0x8000_0000
       → (wanted : ℕ) → readingAt b m i wanted ≡ unread notAnswered 0
 

@@ -1,4 +1,4 @@
--- Terms that the statements share: the tags of a message, and what the responder has each of them say.
+-- Terms that the statements share: the tags of a message, and what each of them says where the responder walks it.
 use mathlib.Core.List.{List}
 use mathlib.Core.Path.{_≡_}
 use Prim.Native.Nat.{ℕ}
@@ -20,10 +20,11 @@ use Rattle.responder.specs.Turns.{Said, silent, says}
 abbrev pub walkOf : List ℕ → Walk
 walkOf m = walkFrom m (word m 0) header
 
--- its tag of an index, from 0
+-- what stands for a tag behind the last
 abbrev pub noTag : Tag
 noTag = record { at = 0; id = 0; size = 0; word = 0 }
 
+-- its tag of an index, from 0
 abbrev pub tagOf : List ℕ → ℕ → Tag
 tagOf m i = getD (walkOf m .tags) i noTag
 
@@ -39,7 +40,7 @@ decisionOf b m = groupOf (b .display) (trailOf m .ending) (trailOf m .requests)
 abbrev pub answersOf : Board → List ℕ → List Said
 answersOf b m = answers (decisionOf b m) b (trailOf m .requests)
 
--- what the tag of an index says: behind a fault, and behind the last tag, nothing
+-- what the tag of an index says in a message that is walked: behind a fault, and behind the last tag, nothing
 abbrev pub saidAt : Board → List ℕ → ℕ → Said
 saidAt b m i = getD (answersOf b m) i silent
 

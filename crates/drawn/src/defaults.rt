@@ -1,4 +1,5 @@
 // Answers that are read, or the default in their place.
+use crate::ids;
 use board::bench::bench_record;
 use console::print_bytes;
 use console::print_number;
@@ -9,13 +10,6 @@ use message::reader::read;
 use responder::respond::respond;
 use words::bytes::prefix;
 ghost use mathlib.Core.Path.{_≡_};
-
-const MAC_ADDRESS: u32 = 0x0001_0003;
-
-const SERIAL: u32 = 0x0001_0004;
-
-// No tag of the table.
-const UNKNOWN: u32 = 2;
 
 // The outcome of a reading, and the bytes that are shown where six others are the default.
 fn draw_or(name: &[u8], message: &[u8], id: u32, wanted: usize) {
@@ -30,19 +24,24 @@ fn draw_or(name: &[u8], message: &[u8], id: u32, wanted: usize) {
 // A request for the MAC address in a value of four bytes, and an unknown tag.
 fn build_request(buffer: &mut [u8]) {
     let start = builder::start(buffer).cursor;
-    let second = builder::add(buffer, start, MAC_ADDRESS, 4, &[]).cursor;
-    let end = builder::add(buffer, second, UNKNOWN, 4, &[]).cursor;
+    let second = builder::add(buffer, start, ids::MAC_ADDRESS, 4, &[]).cursor;
+    let end = builder::add(buffer, second, ids::UNKNOWN, 4, &[]).cursor;
     builder::finish(buffer, end);
 }
 
 fn draw_reply(reply: &[u8]) {
-    draw_or(b"MAC address in 4 bytes, 4 wanted", reply, MAC_ADDRESS, 4);
-    draw_or(b"5 wanted", reply, MAC_ADDRESS, 5);
-    draw_or(b"6 wanted", reply, MAC_ADDRESS, 6);
-    draw_or(b"0 wanted", reply, MAC_ADDRESS, 0);
-    draw_or(b"no such tag", reply, SERIAL, 4);
-    draw_or(b"not answered", reply, UNKNOWN, 0);
-    draw_or(b"lent 11", prefix(reply, 11), MAC_ADDRESS, 4);
+    draw_or(
+        b"MAC address in 4 bytes, 4 wanted",
+        reply,
+        ids::MAC_ADDRESS,
+        4,
+    );
+    draw_or(b"5 wanted", reply, ids::MAC_ADDRESS, 5);
+    draw_or(b"6 wanted", reply, ids::MAC_ADDRESS, 6);
+    draw_or(b"0 wanted", reply, ids::MAC_ADDRESS, 0);
+    draw_or(b"no such tag", reply, ids::SERIAL, 4);
+    draw_or(b"not answered", reply, ids::UNKNOWN, 0);
+    draw_or(b"lent 11", prefix(reply, 11), ids::MAC_ADDRESS, 4);
 }
 
 pub fn cases()
@@ -50,7 +49,7 @@ pub fn cases()
 {
     let mut lent = [0u8; 48];
     build_request(&mut lent);
-    draw_or(b"MAC address not served", &lent, MAC_ADDRESS, 4);
+    draw_or(b"MAC address not served", &lent, ids::MAC_ADDRESS, 4);
     respond(bench_record(), &mut lent);
     draw_reply(&lent);
 }

@@ -1,4 +1,5 @@
 // Messages that are kept and asked several times.
+use crate::ids;
 use crate::lines;
 use board::bench::bench_record;
 use console::print_number;
@@ -10,16 +11,6 @@ use message::reader::read_two;
 use message::reader::whole_answer;
 use responder::respond::respond;
 ghost use mathlib.Core.Path.{_≡_};
-
-const MODEL: u32 = 0x0001_0001;
-
-const REVISION: u32 = 0x0001_0002;
-
-const MAC: u32 = 0x0001_0003;
-
-const LINE: u32 = 0x0005_0001;
-
-const UNKNOWN: u32 = 7;
 
 // The cursor behind a tag that has room for an answer of so many bytes.
 fn add_tag(buffer: &mut [u8], cursor: Cursor, id: u32, size: u32) -> Cursor {
@@ -54,30 +45,30 @@ fn draw_readings(bytes: &[u8]) {
     draw_two(
         b"MAC address, model",
         bytes,
-        question(MAC, 0, 6),
-        question(MODEL, 0, 4),
+        question(ids::MAC_ADDRESS, 0, 6),
+        question(ids::MODEL, 0, 4),
     );
     draw_two(
-        b"other MAC address, 4 and 6 bytes",
+        b"second MAC address, 4 and 6 bytes",
         bytes,
-        question(MAC, 1, 4),
-        question(MAC, 1, 6),
+        question(ids::MAC_ADDRESS, 1, 4),
+        question(ids::MAC_ADDRESS, 1, 6),
     );
     draw_two(
         b"third MAC address, revision",
         bytes,
-        question(MAC, 2, 0),
-        question(REVISION, 0, 0),
+        question(ids::MAC_ADDRESS, 2, 0),
+        question(ids::REVISION, 0, 0),
     );
     draw_two(
         b"unknown tag, id 0",
         bytes,
-        question(UNKNOWN, 0, 0),
+        question(ids::UNKNOWN, 0, 0),
         question(0, 0, 0),
     );
-    draw_whole(b"whole MAC address", bytes, MAC, 0);
-    draw_whole(b"whole other MAC address", bytes, MAC, 1);
-    draw_whole(b"whole unknown tag", bytes, UNKNOWN, 0);
+    draw_whole(b"whole MAC address", bytes, ids::MAC_ADDRESS, 0);
+    draw_whole(b"whole second MAC address", bytes, ids::MAC_ADDRESS, 1);
+    draw_whole(b"whole unknown tag", bytes, ids::UNKNOWN, 0);
 }
 
 // The same of its command line, which has 51 bytes.
@@ -85,17 +76,17 @@ fn draw_line(bytes: &[u8]) {
     draw_two(
         b"command line, 0 and 51 bytes",
         bytes,
-        question(LINE, 0, 0),
-        question(LINE, 0, 51),
+        question(ids::COMMAND_LINE, 0, 0),
+        question(ids::COMMAND_LINE, 0, 51),
     );
     draw_two(
         b"command line, 52 and 64 bytes",
         bytes,
-        question(LINE, 0, 52),
-        question(LINE, 0, 64),
+        question(ids::COMMAND_LINE, 0, 52),
+        question(ids::COMMAND_LINE, 0, 64),
     );
-    draw_whole(b"whole command line", bytes, LINE, 0);
-    print_text(whole_answer(bytes, LINE, 0));
+    draw_whole(b"whole command line", bytes, ids::COMMAND_LINE, 0);
+    print_text(whole_answer(bytes, ids::COMMAND_LINE, 0));
     print_text(b"\n");
 }
 
@@ -105,18 +96,18 @@ pub fn cases()
     ensures { λ r. ⌜ r ≡ tt ⌝ }
 {
     let mut buffer = [0u8; 160];
-    let one = builder::start(&buffer).cursor;
-    let mac = add_tag(&mut buffer, one, MAC, 6);
-    let short = add_tag(&mut buffer, mac, MAC, 4);
-    let model = add_tag(&mut buffer, short, MODEL, 4);
-    let unknown = add_tag(&mut buffer, model, UNKNOWN, 0);
-    let line = add_tag(&mut buffer, unknown, LINE, 64);
+    let first = builder::start(&buffer).cursor;
+    let mac = add_tag(&mut buffer, first, ids::MAC_ADDRESS, 6);
+    let short = add_tag(&mut buffer, mac, ids::MAC_ADDRESS, 4);
+    let model = add_tag(&mut buffer, short, ids::MODEL, 4);
+    let unknown = add_tag(&mut buffer, model, ids::UNKNOWN, 0);
+    let line = add_tag(&mut buffer, unknown, ids::COMMAND_LINE, 64);
     lines::of_finished(b"to be kept", builder::finish(&mut buffer, line));
     draw_two(
         b"not served",
         &buffer,
-        question(MAC, 0, 6),
-        question(MODEL, 0, 4),
+        question(ids::MAC_ADDRESS, 0, 6),
+        question(ids::MODEL, 0, 4),
     );
     let served = respond(bench_record(), &mut buffer);
     lines::of_served(b"served, and kept", served.outcome, served.place);

@@ -3,6 +3,7 @@
 mod answered;
 mod built;
 mod defaults;
+mod ids;
 mod kept;
 mod lines;
 mod listed;

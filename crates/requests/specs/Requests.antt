@@ -1,4 +1,4 @@
--- What the tags of a message ask for. No size of a value buffer gets past this point.
+-- What the tags of a message ask for. A request has its bytes, and no size of a value buffer in it.
 use mathlib.Core.Bool.{Bool, true, false, cond}
 use mathlib.Core.List.{List, [], _∷_}
 use mathlib.Core.Logic.{_⊎_}
@@ -30,7 +30,7 @@ valueOf m t = take (t .size) (drop (t .at + tagHeader) m)
 unfoldable pub requestBytes : Kind → (least size : ℕ) → (value : List ℕ) → List ℕ
 requestBytes kind least size value = take least value
 
--- a tag that came answered, with bit 31 of its word set, or an unknown id: passed over; bits 0 to 30 of a request's
+-- a tag that came with bit 31 of its word set, or with an unknown id: passed over; bits 0 to 30 of a request's
 -- word are ignored
 unfoldable pub requestBy : (answered : Bool) → Row → (size : ℕ) → List ℕ → Request
 requestBy true row size value = passed

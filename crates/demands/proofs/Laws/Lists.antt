@@ -21,7 +21,7 @@ use Rattle.demands.specs.Listing.{Add, noAdd, placeBehind, valueOffset, 
 
 -- what the lister gives of a tag is the add a, with its value at an offset
 record IsAdd (m : List ℕ) (offset : ℕ) (a : Add) (r : Listed) : Type 0 where
-  pub row : r ≡ record { outcome = done; place = 0; id = a .id; size = a .size; word = 0; value = offset }
+  pub as-listed : r ≡ record { outcome = done; place = 0; id = a .id; size = a .size; word = 0; value = offset }
   pub value : take (a .size) (drop offset m) ≡ a .request ++ zeros (a .size - length (a .request))
 
 module _ (m : List ℕ) (size c : ℕ) (inside : c < size) (end : word m c ≡ 0) where
@@ -33,7 +33,7 @@ module _ (m : List ℕ) (size c : ℕ) (inside : c < size) (end : word m c ≡ 0
   rows [] p h i l = absurd (omega arith)
   rows (a ∷ adds) p h zero l =
       let q = holds-le m (tagEnd p (a .size)) adds c (h .2) in
-      rw (walk-tag m size p (finds m p a (h .0) (h .1) size (omega arith))) (record { row = refl; value = value-is m p a (h .0) (h .1) })
+      rw (walk-tag m size p (finds m p a (h .0) (h .1) size (omega arith))) (record { as-listed = refl; value = value-is m p a (h .0) (h .1) })
   rows (a ∷ adds) p h (suc i) l =
       let q = holds-le m (tagEnd p (a .size)) adds c (h .2) in
       rw (walk-tag m size p (finds m p a (h .0) (h .1) size (omega arith))) (rows adds (tagEnd p (a .size)) (h .2) i (omega arith))
@@ -55,7 +55,7 @@ module _ (m : List ℕ) (c : ℕ) (adds : List Add) (w : Whole m c adds) where
   shows i l =
       let r : IsAdd m (valueOffset adds i) (getD adds i noAdd) (listed m i) =
       rw (listed-is i) (rows m (word m 0) c (w .inside) (w .end) adds header (w .holds) i l) in
-      record { row = r .row; value = r .value }
+      record { as-listed = r .as-listed; value = r .value }
 
   pub lists : Lists m adds
-  lists = record { each = shows; last = λ i l. listed-is i ∙ behind-last m (word m 0) c (w .inside) (w .end) adds header (w .holds) i l }
+  lists = record { each = shows; behind-last = λ i l. listed-is i ∙ behind-last m (word m 0) c (w .inside) (w .end) adds header (w .holds) i l }

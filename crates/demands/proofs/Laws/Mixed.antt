@@ -2,7 +2,7 @@
 use mathlib.Core.Bool.{Bool, true, false, not, _||_, true≢false}
 use mathlib.Core.List.{List, [], _∷_}
 use mathlib.Core.Logic.{_⊎_, inl, inr}
-use mathlib.Core.Path.{_≡_, refl}
+use mathlib.Core.Path.{_≡_, refl, sym, _∙_}
 use Prim.Native.Nat.{ℕ, zero, suc}
 use borrow.Author.Tests.{eqb-true, eq-eqb}
 use lib.Dec.{eqb}
@@ -109,6 +109,13 @@ decided-some false true d o n s = carried-answered (accepted d o) d o
 decided-some false false d o n (inl s) = absurd (true≢false cc)
 decided-some false false d o n (inr s) = absurd (true≢false cc)
 
+-- a fault, tests with other tags, or nothing but tests
+abbrev pub KeepsDisplay : Ending → List Request → Type 0
+KeepsDisplay e rs =
+    (e .outcome ≡ done → ⊥)
+    ⊎ ((((i : ℕ) × AsksGroup true (getD rs i passed)) × ((j : ℕ) × AsksGroup false (getD rs j passed)))
+    ⊎ ((i : ℕ) → AsksGroup false (getD rs i passed) → ⊥))
+
 module _ (d : Display) (e : Ending) (rs : List Request) where
   abbrev o : Operation
   o = operation (unasked (d .settings)) rs
@@ -128,6 +135,18 @@ module _ (d : Display) (e : Ending) (rs : List Request) where
       decided-apart (o .tests) (o .others) d o (rw (eq-eqb (e .outcome) done (answered-faultless a)) at a)
       (has-one true rs (unasked (d .settings)) i p) (has-one false rs (unasked (d .settings)) j q)
 
+  -- what an operation has came from one of its tags
+  witness : (c : Bool) → has c o ≡ true → (i : ℕ) × AsksGroup c (getD rs i passed)
+  witness c x = given (came-from c rs (unasked (d .settings)) x)
+    where
+      none-yet : (c : Bool) → has c (unasked (d .settings)) ≡ true → ⊥
+      none-yet true y = true≢false cc
+      none-yet false y = true≢false cc
+
+      given : ((i : ℕ) × AsksGroup c (getD rs i passed)) ⊎ (has c (unasked (d .settings)) ≡ true) → (i : ℕ) × AsksGroup c (getD rs i passed)
+      given (inl w) = w
+      given (inr y) = absurd (none-yet c y)
+
   -- one that has no fault, does not mix and is asked something is answered
   pub apart-answered : e .outcome ≡ done
       → (((i : ℕ) × AsksGroup true (getD rs i passed)) → ((j : ℕ) × AsksGroup false (getD rs j passed)) → ⊥)
@@ -137,17 +156,30 @@ module _ (d : Display) (e : Ending) (rs : List Request) where
       rw (eq-eqb (e .outcome) done f)
       (decided-some (o .tests) (o .others) d o (λ p q. n (witness true p) (witness false q)) (one test (has-one test rs (unasked (d .settings)) i a)))
     where
-      none-yet : (c : Bool) → has c (unasked (d .settings)) ≡ true → ⊥
-      none-yet true x = true≢false cc
-      none-yet false x = true≢false cc
-
-      given : (c : Bool) → ((i : ℕ) × AsksGroup c (getD rs i passed)) ⊎ (has c (unasked (d .settings)) ≡ true) → (i : ℕ) × AsksGroup c (getD rs i passed)
-      given c (inl w) = w
-      given c (inr x) = absurd (none-yet c x)
-
-      witness : (c : Bool) → has c o ≡ true → (i : ℕ) × AsksGroup c (getD rs i passed)
-      witness c x = given c (came-from c rs (unasked (d .settings)) x)
-
       one : (c : Bool) → has c o ≡ true → (o .tests ≡ true) ⊎ (o .others ≡ true)
       one true x = inl x
       one false x = inr x
+
+  -- a group with a fault before it, one that mixes, and one that is asked for nothing but tests leave the display
+  pub display-same : KeepsDisplay e rs → groupOf d e rs .display ≡ d
+  unfolding groupOf decided
+  display-same h = go (eqb (e .outcome) done) refl
+    where
+      tested-same : (c : Bool) → tested c d o .display ≡ d
+      tested-same true = refl
+      tested-same false = refl
+
+      carries : o .tests ≡ false → o .others ≡ true → e .outcome ≡ done → KeepsDisplay e rs → ⊥
+      carries t u f (inl n) = n f
+      carries t u f (inr (inl x)) = true≢false (sym (has-one true rs (unasked (d .settings)) (x .0 .0) (x .0 .1)) ∙ t)
+      carries t u f (inr (inr n)) = let w = witness false u in n (w .0) (w .1)
+
+      by : (t u : Bool) → o .tests ≡ t → o .others ≡ u → e .outcome ≡ done → decidedBy t u d o .display ≡ d
+      by true true et eu f = refl
+      by true false et eu f = tested-same (supportedFrom d (o .proposal))
+      by false true et eu f = absurd (carries et eu f h)
+      by false false et eu f = refl
+
+      go : (c : Bool) → eqb (e .outcome) done ≡ c → groupBy c d o .display ≡ d
+      go true q = by (o .tests) (o .others) refl refl (eqb-true _ _ q)
+      go false q = refl

@@ -11,7 +11,7 @@ use Rattle.words.proofs.Laws.Agree.{take-earlier, part-before, number-behind, n
 use Rattle.words.proofs.Laws.Put.{length-put, drop-put, take-put, read-put, number-put, put-behind}
 use Rattle.words.specs.Numbers.{le, word}
 use Rattle.words.specs.Put.{put, zeros}
-use Rattle.message.proofs.Laws.Builder.{GoodCursor, taken, finish-taken, Closed}
+use Rattle.message.proofs.Laws.Builder.{GoodCursor, taken-has, finish-taken, Closed}
 use Rattle.message.proofs.Laws.Built.{add-refused, add-done, finish-done, finish-accepted}
 use Rattle.message.proofs.Laws.Opening.{GoodSize}
 use Rattle.message.specs.Builder.{Call, added, room, goodCursor, startOutcome, addOutcome, startedIf, started, finished, closed, finishedSize}
@@ -55,7 +55,7 @@ module _ (m : List ℕ) (c : Cursor) (a : Add) (adds : List Add) where
   ran-taken : a .id < 2 ^ 32 → a .size < 2 ^ 32 → outcome ≡ done → Ran m₁ (c₁ .at) (addAll adds m₁ c₁) → Ran m (c .at) (addAll (a ∷ adds) m c)
   unfolding outcome m₁ c₁
   ran-taken wi ws z r =
-      let t = taken (length m) (c .at) (a .id) (a .size) (length (a .request)) z in
+      let t = taken-has (length m) (c .at) (a .id) (a .size) (length (a .request)) z in
       let f : Fine a = record { id-word = wi; size-word = ws; named = t .named; holds = t .holds } in
       let l = length-tag a f in
       let after = addAll adds m₁ c₁ in
@@ -118,7 +118,7 @@ run-can-finish (a ∷ adds) m c h =
         → (Closed (length (m₁ m c a adds)) (c₁ m c a adds .at) → CanFinish (addAll adds (m₁ m c a adds) (c₁ m c a adds))) → CanFinish (addAll (a ∷ adds) m c)
     go true e r k =
         let z = eqb-true (outcome m c a adds) done e in
-        let t = taken (length m) (c .at) (a .id) (a .size) (length (a .request)) z in
+        let t = taken-has (length m) (c .at) (a .id) (a .size) (length (a .request)) z in
         let l = length-put (c .at) (addBytes a) m in
         let o : Closed (length (put (c .at) (addBytes a) m)) (tagEnd (c .at) (a .size)) =
         rw l (record { cursor = record { from-header = omega arith; fours = omega arith; within = omega arith }; fits = t .fits }) in
