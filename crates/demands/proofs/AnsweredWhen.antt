@@ -84,8 +84,8 @@ module _ (b : Board) (m : List ℕ) (i : ℕ) where
     place-is = rw is
 
     -- a tag that is answered has all that it takes
-    answerable : Speaks (decisionOf b m) r → Answerable b m t
-    answerable s = go there
+    speaks-has : Speaks (decisionOf b m) r → Answerable b m t
+    speaks-has s = go there
       where
         stands : (trailOf m .ending .outcome ≡ done) ⊎ (t .at < trailOf m .ending .place) → Faultless b m ⊎ (t .at < reply b m .answer .place)
         stands (inl d) = inl (outcome-is ∙ d)
@@ -122,8 +122,8 @@ module _ (b : Board) (m : List ℕ) (i : ℕ) where
         go (cut-none q z) = absurd (rw q at s)
 
     -- and one that has is answered
-    answers : Answerable b m t → Speaks (decisionOf b m) r
-    answers a = go there
+    has-speaks : Answerable b m t → Speaks (decisionOf b m) r
+    has-speaks a = go there
       where
         asked : (k : Kind) (n : ℕ) → rowOf (t .id) ≡ Row.Known k n → (request : List ℕ) → r ≡ asks k request → Speaks (decisionOf b m) (asks k request)
         asked (Kind.Outside k) n row request e = tt
@@ -149,7 +149,7 @@ module _ (b : Board) (m : List ℕ) (i : ℕ) where
     where
       go : Replied b m → Answerable b m t
       go (untouched o e f z) = absurd (clash (reply b m .answer .outcome) (a .0) o)
-      go (walked v g e) = answerable e (speaks (decisionOf b m) (said-at .board) r (sym (said-at .said) ∙ a .1 .1))
+      go (walked v g e) = speaks-has e (speaks (decisionOf b m) (said-at .board) r (sym (said-at .said) ∙ a .1 .1))
 
   pub has-answered : Answerable b m t → Answered b m i
   has-answered a = go (replied b m)
@@ -161,7 +161,7 @@ module _ (b : Board) (m : List ℕ) (i : ℕ) where
       go : Replied b m → Answered b m i
       go (untouched o e f z) = absurd (clash (reply b m .answer .outcome) (early (a .before) z) o)
       go (walked v g e) =
-          let s = spoken (decisionOf b m) (said-at .board) r (answers e a) in
+          let s = spoken (decisionOf b m) (said-at .board) r (has-speaks e a) in
           (rw (outcome-is e) (ending-outcome m (word m 0) header), (s .0, said-at .said ∙ s .1))
 
 pub answered-when : AnsweredWhen

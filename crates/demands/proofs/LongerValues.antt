@@ -41,17 +41,17 @@ use Rattle.demands.specs.Terms.{noTag, walkOf, tagOf, trailOf, decisionO
 use Rattle.demands.specs.Walked.{tagAfter, tagsAfter}
 
 -- ---- a faultless request
-record Served-faultless (b : Board) (m : List ℕ) : Type 0 where
+record ServedFaultless (b : Board) (m : List ℕ) : Type 0 where
   pub ending : trailOf m .ending .outcome ≡ done
   pub board : reply b m .answer .board ≡ withDisplay (after (decisionOf b m) b (trailOf m .requests)) (decisionOf b m .display)
   pub found-is : (id n wanted : ℕ)
       → found (reply b m .bytes) id n wanted ≡ foundIn id n wanted (record { tags = tagsAfter (walkOf m .tags) (answersOf b m); ending = walkOf m .ending })
 
-served-faultless : (b : Board) (m : List ℕ) → reply b m .answer .outcome ≡ done → Served-faultless b m
+served-faultless : (b : Board) (m : List ℕ) → reply b m .answer .outcome ≡ done → ServedFaultless b m
 unfolding served
 served-faultless b m d = go (replied b m)
   where
-    go : Replied b m → Served-faultless b m
+    go : Replied b m → ServedFaultless b m
     go (untouched o e f z) = absurd (clash (reply b m .answer .outcome) (inl d) o)
     go (walked v g e) = record {
       ending = sym (ap (λ (r : Call Served). r .answer .outcome) e) ∙ d;
@@ -112,10 +112,10 @@ module _ (b : Board) (m m′ : List ℕ) (p : AlikeButLonger b m m′) where
   a : Alike m m′ (walkOf m .tags) (walkOf m′ .tags)
   a = alike-by-index m m′ (walkOf m .tags) (walkOf m′ .tags) (p .same-ids) (p .words-before) (p .same-requests) (p .longer)
 
-  f : Served-faultless b m
+  f : ServedFaultless b m
   f = served-faultless b m (p .faultless)
 
-  f′ : Served-faultless b m′
+  f′ : ServedFaultless b m′
   f′ = served-faultless b m′ (p .faultless′)
 
   asked-same : trailOf m .requests ≡ trailOf m′ .requests

@@ -23,16 +23,16 @@ use Rattle.table.specs.declared.rows.Row.{Row}
 use Rattle.requests.specs.Requests.{valueOf, requestBytes, requestBy, requestOf, trail}
 use Rattle.responder.specs.Reply.{served, reply}
 use Rattle.demands.proofs.LongerValues.{longer-values}
-use Rattle.demands.proofs.ServedMet.{tag, macBytes, severalTags, several-done, mac-said, several-read, mac-answered}
+use Rattle.demands.proofs.ServedMet.{requestTag, macBytes, severalTags, several-done, mac-said, several-read, mac-answered}
 use Rattle.demands.specs.LongerValues.{SameRequest, ShownAlike, ServedAlike}
 use Rattle.demands.specs.ReadingBack.{readingOf}
 use Rattle.demands.specs.Terms.{tagOf}
 
 -- the tags of `severalTags` in longer values
-abbrev longer : List ℕ
-longer = wordBytes (88 ∷ 0 ∷ 0x00010003 ∷ 8 ∷ 0 ∷ 0 ∷ 0 ∷ 0x00099999 ∷ 8 ∷ 0 ∷ 9 ∷ 9 ∷ 0x00048005 ∷ 8 ∷ 0 ∷ 16 ∷ 5 ∷ 0x00040005 ∷ 4 ∷ 0 ∷ 0 ∷ 0 ∷ [])
+abbrev longerTags : List ℕ
+longerTags = wordBytes (88 ∷ 0 ∷ 0x00010003 ∷ 8 ∷ 0 ∷ 0 ∷ 0 ∷ 0x00099999 ∷ 8 ∷ 0 ∷ 9 ∷ 9 ∷ 0x00048005 ∷ 8 ∷ 0 ∷ 16 ∷ 5 ∷ 0x00040005 ∷ 4 ∷ 0 ∷ 0 ∷ 0 ∷ [])
 
-longer-done : reply bench longer .answer .outcome ≡ done
+longer-done : reply bench longerTags .answer .outcome ≡ done
 unfolding reply served opened goodSize numberAt trail walkFrom step overruns tagAt requestOf requestBy requestBytes rowOf table outsideTags groupTags
 longer-done = rw bench-valid
 
@@ -50,38 +50,38 @@ unknown-row m m′ t t′ r k n r′ w =
     let q : Row.Unknown ≡ Row.Known k n = sym r ∙ r′ in
     absurd (true≢false cc)
 
-requests : (i : ℕ) → i < 4 → SameRequest severalTags longer (tagOf severalTags i) (tagOf longer i)
+several-requests : (i : ℕ) → i < 4 → SameRequest severalTags longerTags (tagOf severalTags i) (tagOf longerTags i)
 unfolding numberAt walkFrom step overruns tagAt rowOf table outsideTags groupTags requestBytes
-requests zero l = known-row severalTags longer (tag 8 0x00010003 4) (tag 8 0x00010003 8) (factKind FactTag.Mac) 0 refl refl
-requests (suc zero) l = unknown-row severalTags longer (tag 24 0x00099999 4) (tag 28 0x00099999 8) refl
-requests (suc (suc zero)) l =
-    known-row severalTags longer (tag 40 0x00048005 4) (tag 48 0x00048005 8) (Kind.Group (FrameTag.Set Setting.Depth)) 4 refl refl
-requests (suc (suc (suc zero))) l =
-    known-row severalTags longer (tag 56 0x00040005 4) (tag 68 0x00040005 4) (Kind.Group (FrameTag.Get Setting.Depth)) 0 refl refl
-requests (suc (suc (suc (suc i)))) l = absurd (omega arith)
+several-requests zero l = known-row severalTags longerTags (requestTag 8 0x00010003 4) (requestTag 8 0x00010003 8) (factKind FactTag.Mac) 0 refl refl
+several-requests (suc zero) l = unknown-row severalTags longerTags (requestTag 24 0x00099999 4) (requestTag 28 0x00099999 8) refl
+several-requests (suc (suc zero)) l =
+    known-row severalTags longerTags (requestTag 40 0x00048005 4) (requestTag 48 0x00048005 8) (Kind.Group (FrameTag.Set Setting.Depth)) 4 refl refl
+several-requests (suc (suc (suc zero))) l =
+    known-row severalTags longerTags (requestTag 56 0x00040005 4) (requestTag 68 0x00040005 4) (Kind.Group (FrameTag.Get Setting.Depth)) 0 refl refl
+several-requests (suc (suc (suc (suc i)))) l = absurd (omega arith)
 
-values : (i : ℕ) → i < 4 → tagOf severalTags i .size ≤ tagOf longer i .size
+several-values : (i : ℕ) → i < 4 → tagOf severalTags i .size ≤ tagOf longerTags i .size
 unfolding numberAt walkFrom step overruns tagAt
-values zero l = lit≤ tt
-values (suc zero) l = lit≤ tt
-values (suc (suc zero)) l = lit≤ tt
-values (suc (suc (suc zero))) l = lit≤ tt
-values (suc (suc (suc (suc i)))) l = absurd (omega arith)
+several-values zero l = lit≤ tt
+several-values (suc zero) l = lit≤ tt
+several-values (suc (suc zero)) l = lit≤ tt
+several-values (suc (suc (suc zero))) l = lit≤ tt
+several-values (suc (suc (suc (suc i)))) l = absurd (omega arith)
 
-pub longer-alike : ServedAlike bench severalTags longer
+pub longer-alike : ServedAlike bench severalTags longerTags
 unfolding numberAt walkFrom step overruns tagAt
 longer-alike =
-    longer-values bench severalTags longer (record {
+    longer-values bench severalTags longerTags (record {
       faultless = several-done;
       faultless′ = longer-done;
       same-ids = refl;
       words-before = refl;
-      same-requests = requests;
-      longer = values;
+      same-requests = several-requests;
+      longer = several-values;
     })
 
 -- the reader, asked for the four first bytes of the MAC address, shows the same of both
-pub mac-alike : ShownAlike bench severalTags longer 4 (readingOf bench severalTags 0x00010003 0 4) (readingOf bench longer 0x00010003 0 4)
+pub mac-alike : ShownAlike bench severalTags longerTags 4 (readingOf bench severalTags 0x00010003 0 4) (readingOf bench longerTags 0x00010003 0 4)
 unfolding numberAt walkFrom step overruns tagAt
 mac-alike =
     let reading = several-read .answer-read 0 (lit< tt) macBytes mac-said .shows 4 (lit≤ tt) in

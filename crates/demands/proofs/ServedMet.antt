@@ -51,8 +51,8 @@ use Rattle.demands.specs.ReadingBack.{occurrenceAt, sought, Reads}
 use Rattle.demands.specs.Terms.{tagOf, trailOf, answersOf, saidAt, Answered}
 use Rattle.demands.specs.Walked.{LeavesTags}
 
-abbrev pub tag : (at id size : ℕ) → Tag
-tag at id size = record { at = at; id = id; size = size; word = 0 }
+abbrev pub requestTag : (at id size : ℕ) → Tag
+requestTag at id size = record { at = at; id = id; size = size; word = 0 }
 
 -- ---- MAC address, an unknown id, set depth 16, get depth
 abbrev pub severalTags : List ℕ
@@ -74,7 +74,8 @@ several-answers = refl
 pub mac-said : saidAt bench severalTags 0 ≡ says macBytes
 mac-said = ap (λ (ss : List Said). getD ss 0 silent) several-answers
 
-several-trail : trailOf severalTags .tags ≡ tag 8 0x00010003 4 ∷ tag 24 0x00099999 4 ∷ tag 40 0x00048005 4 ∷ tag 56 0x00040005 4 ∷ []
+several-trail : trailOf severalTags .tags
+    ≡ requestTag 8 0x00010003 4 ∷ requestTag 24 0x00099999 4 ∷ requestTag 40 0x00048005 4 ∷ requestTag 56 0x00040005 4 ∷ []
 unfolding numberAt trail walkFrom step overruns tagAt requestOf requestBy requestBytes rowOf table outsideTags groupTags
 several-trail = refl
 
