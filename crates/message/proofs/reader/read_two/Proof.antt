@@ -42,9 +42,9 @@ use Rattle.message.proofs.reader.read_two.Code as code
 use Rattle.message.specs.Reader.{foundTwo}
 use Rattle.message.specs.declared.reader.Reading.{Reading}
 
--- a tag that is sought, as a parameter
-abbrev tag : Parameter
-tag = record {
+-- a question, as a parameter
+abbrev questionParameter : Parameter
+questionParameter = record {
   row = Q.the-row;
   vals = λ n. Q′.lowered n ∷ [];
   tells = LL.tells Q.the-type Q′.the-laws;
@@ -53,7 +53,7 @@ tag = record {
 }
 
 abbrev this : CallShape
-this = of-slice (tag ∷ tag ∷ []) (λ κs. R.the-row) (λ κs s n r. r ≡ foundTwo (now s) (n .0) (n .1 .0))
+this = of-slice (questionParameter ∷ questionParameter ∷ []) (λ κs. R.the-row) (λ κs s n r. r ≡ foundTwo (now s) (n .0) (n .1 .0))
 
 module _ {M : Type 1} {𝓤 : URA M} {H : Heap 𝓤} {A : Atoms 𝓤} (W : Given 𝓤 H A) (κ : Lft) (q : Share) (s : RefT (List ℕ))
     (n : Denots (Rows (κ, tt) (this .beside))) where
@@ -62,9 +62,9 @@ module _ {M : Type 1} {𝓤 : URA M} {H : Heap 𝓤} {A : Atoms 𝓤} (W : Given
   v = this .lowered (κ, tt) s
 
   -- two readings with their machine values are the struct of both with its own
-  both : {t₁ t₂ : Reading} {u₁ u₂ : Val} → Is S.the-row t₁ (u₁ ∷ []) → Is S.the-row t₂ (u₂ ∷ [])
+  both-readings : {t₁ t₂ : Reading} {u₁ u₂ : Val} → Is S.the-row t₁ (u₁ ∷ []) → Is S.the-row t₂ (u₂ ∷ [])
       → Is R.the-row (record { one = t₁; other = t₂ }) (vstruct (vcons u₁ (vcons u₂ vnil)) ∷ [])
-  both {t₁} {t₂} {u₁} {u₂} is₁ is₂ = ((u₁ ∷ [], (u₂ ∷ [], tt)), (refl, (is₁, (is₂, tt))))
+  both-readings {t₁} {t₂} {u₁} {u₂} is₁ is₂ = ((u₁ ∷ [], (u₂ ∷ [], tt)), (refl, (is₁, (is₂, tt))))
 
   module _ (C : Calls 𝓤 H) (Λ : Loops 𝓤 H) (fm : FmC 𝓤 H (W .laws) C) (known-open : Triple 𝓤 (C open-def.name) (CallContract W open-call))
       (known-read : Triple 𝓤 (C read-def.name) (CallContract W read-call)) where
@@ -100,13 +100,13 @@ module _ {M : Type 1} {𝓤 : URA M} {H : Heap 𝓤} {A : Atoms 𝓤} (W : Given
         land ! (from ! (stop !)) (init ! 6 refl (LL.lawful S.the-type S′.the-laws 𝓤 H A W .typed t₂ _ is₂ .0)) $ drop ! $
         -- [the token; what the struct owns; what s owns; _8; …; room for _0; …]
         assigns ! (agg ! (and-then ! (load ! (from ! (stop !)) (look ! 9 refl)) (and-then ! (load ! (from ! (stop !)) (look ! 5 refl)) (no-more !))))
-        (from ! (stop !)) (init ! 19 refl (LL.lawful R.the-type R′.the-laws 𝓤 H A W .typed (record { one = t₁; other = t₂ }) _ (both is₁ is₂) .0)) $
+        (from ! (stop !)) (init ! 19 refl (LL.lawful R.the-type R′.the-laws 𝓤 H A W .typed (record { one = t₁; other = t₂ }) _ (both-readings is₁ is₂) .0)) $
         returns ! (look ! 19 refl) $ forget ! 3 refl $ forget ! 5 refl $ forget ! 7 refl $ forget ! 9 refl $ forget ! 11 refl $ forget ! 13 refl $
         forget ! 15 refl $ forget ! 17 refl $ forget ! 19 refl $ move ! (19 ∷ 20 ∷ []) $ free1 ! $ move ! (17 ∷ 18 ∷ []) $ free1 ! $
         move ! (15 ∷ 16 ∷ []) $ free1 ! $ move ! (13 ∷ 14 ∷ []) $ free1 ! $ move ! (11 ∷ 12 ∷ []) $ free1 ! $ move ! (9 ∷ 10 ∷ []) $ free1 ! $
         move ! (7 ∷ 8 ∷ []) $ free1 ! $ move ! (5 ∷ 6 ∷ []) $ free1 ! $ move ! (3 ∷ 4 ∷ []) $ free1 ! $ free0 ! $
         move ! (1 ∷ []) $ drop ! $
-        owned ! R.the-row (Is R.the-row) (LL.makes R.the-type R′.the-plain 𝓤 H A) (record { one = t₁; other = t₂ }) _ (both is₁ is₂) $
+        owned ! R.the-row (Is R.the-row) (LL.makes R.the-type R′.the-plain 𝓤 H A) (record { one = t₁; other = t₂ }) _ (both-readings is₁ is₂) $
         by ! (exits W this κ q s v n are (record { one = t₁; other = t₂ }) _
         ((λ i. record { one = e₁ i; other = e₂ i }) ∙ ap (λ (x : RefT (List ℕ)). foundTwo (now x) (n .0) (n .1 .0)) e))))))))))))))
 
