@@ -22,7 +22,7 @@ use Rattle.requests.specs.Requests.{Request, passed, short, asks, valueOf, requ
 use Rattle.responder.specs.Answers.{turnOf}
 use Rattle.responder.specs.Reply.{served, reply}
 use Rattle.responder.specs.Turns.{silent, says}
-use Rattle.demands.proofs.Laws.Cuts.{has-asked, asks-known, CutAt, cut-before, cut-behind, cut-none}
+use Rattle.demands.proofs.Laws.Cuts.{has-asked, asks-unless-short, CutAt, cut-before, cut-behind, cut-none}
 use Rattle.demands.proofs.Laws.Mixed.{answered-faultless, answered-apart, apart-answered}
 use Rattle.demands.proofs.Laws.TurnAt.{TurnAt, turn-of, cut-there}
 use Rattle.demands.proofs.Laws.Replied.{Replied, untouched, walked, replied, clash}
@@ -138,7 +138,7 @@ module _ (b : Board) (m : List ℕ) (i : ℕ) where
         go : CutAt m t (trailOf m) r → Speaks (decisionOf b m) r
         go (cut-before q ns o) =
             let k = a .known in
-            let e = q ∙ asks-known m t (k .2) (a .bit-clear) ns in
+            let e = q ∙ asks-unless-short m t (k .2) (a .bit-clear) ns in
             rw e (asked (k .0) (k .1) (k .2) (requestBytes (k .0) (k .1) (t .size) (valueOf m t)) e)
         go (cut-behind q nd l) = absurd (late (a .before) nd l)
         go (cut-none q z) = let k = a .known in absurd (no-row (rw z at (k .2)))

@@ -42,10 +42,10 @@ has-asked m t {k} {request} e = go (isAnswered t) refl (rowOf (t .id)) refl e
     go false ea (Row.Known k′ n) er q = record { clear = leb-false _ _ ea; least = n; row = rw (← (sized (ltb (t .size) n) k′ n q)) er }
 
 -- and it asks that, unless its value is too short
-pub asks-known : (m : List ℕ) (t : Tag) {k : Kind} {n : ℕ} → rowOf (t .id) ≡ Row.Known k n → t .word < 0x8000_0000 → (requestOf m t ≡ short → ⊥)
+pub asks-unless-short : (m : List ℕ) (t : Tag) {k : Kind} {n : ℕ} → rowOf (t .id) ≡ Row.Known k n → t .word < 0x8000_0000 → (requestOf m t ≡ short → ⊥)
     → requestOf m t ≡ asks k (requestBytes k n (t .size) (valueOf m t))
 unfolding requestOf requestBy
-asks-known m t {k} {n} er w ns = rw (lt-leb 0x8000_0000 (t .word) w, er) (go (ltb (t .size) n) (rw (lt-leb 0x8000_0000 (t .word) w, er) at ns))
+asks-unless-short m t {k} {n} er w ns = rw (lt-leb 0x8000_0000 (t .word) w, er) (go (ltb (t .size) n) (rw (lt-leb 0x8000_0000 (t .word) w, er) at ns))
   where
     go : (x : Bool) → (cond x short (asks k (requestBytes k n (t .size) (valueOf m t))) ≡ short → ⊥)
         → cond x short (asks k (requestBytes k n (t .size) (valueOf m t))) ≡ asks k (requestBytes k n (t .size) (valueOf m t))
