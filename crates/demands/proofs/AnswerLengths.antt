@@ -9,24 +9,19 @@ use Rattle.board.specs.declared.facts.Facts.{Facts}
 use Rattle.board.specs.declared.record.Board.{Board}
 use Rattle.table.specs.Table.{Entry, outsideTags, groupTags, table, find, rowOf}
 use Rattle.table.specs.declared.kinds.Kind.{Kind}
-use Rattle.table.specs.declared.kinds.OutsideTag.{OutsideTag}
 use Rattle.table.specs.declared.rows.Row.{Row}
+use Rattle.tags.proofs.Laws.Alone.{after-facts}
 use Rattle.tags.specs.Fact.{factAnswer}
-use Rattle.tags.specs.Outside.{outsideAnswer, outsideAfter}
+use Rattle.tags.specs.Outside.{outsideAnswer}
 use Rattle.display.specs.Decision.{groupAnswer}
 use Rattle.display.specs.declared.decision.Decision.{Decision}
 use Rattle.requests.specs.Requests.{Request, passed, short, asks, requestOf}
 use Rattle.responder.specs.Answers.{turnOf}
-use Rattle.responder.specs.Turns.{silent, says}
+use Rattle.responder.specs.Turns.{says}
 use Rattle.demands.proofs.Laws.Cuts.{has-asked, CutAt, cut-before, cut-behind, cut-none}
-use Rattle.demands.proofs.Laws.TurnAt.{TurnAt, turn-of, cut-there}
+use Rattle.demands.proofs.Laws.TurnAt.{TurnAt, turn-of, answerBy, speaks, spoken, cut-there}
 use Rattle.demands.specs.AnswerLengths.{HasArrays, entryLength, lengthIn, AnswerLengths}
 use Rattle.demands.specs.Terms.{tagOf, trailOf, decisionOf}
-
--- what a known tag answers
-abbrev answerBy : Decision → Board → Kind → (request : List ℕ) → List ℕ
-answerBy g b (Kind.Outside t) request = outsideAnswer t request b
-answerBy g b (Kind.Group t) request = groupAnswer g t request
 
 -- ---- down the table
 table-lengths : (g : Decision) (b : Board) (request : List ℕ) → HasArrays b
@@ -55,56 +50,35 @@ found-length g b request id (e ∷ es) {k} {n} q r = go (eqb id (e .id)) r (λ x
     go true x h = let is : e .kind ≡ k = cc in rw (← is) here
     go false x h = h x
 
--- ---- no tag changes the facts or the command line
-pub record SameFacts (b b′ : Board) : Type 0 where
-  pub facts : b′ .facts ≡ b .facts
-  pub line : b′ .line ≡ b .line
-
-outside-facts : (b b′ : Board) (t : OutsideTag) (request : List ℕ) → SameFacts b b′ → SameFacts b (outsideAfter t request b′)
-unfolding outsideAfter
-outside-facts b b′ (OutsideTag.Fact t) request p = p
-outside-facts b b′ (OutsideTag.Power t) request p = record { facts = p .facts; line = p .line }
-outside-facts b b′ (OutsideTag.Clock t) request p = record { facts = p .facts; line = p .line }
-outside-facts b b′ (OutsideTag.Voltage t) request p = record { facts = p .facts; line = p .line }
-outside-facts b b′ (OutsideTag.Temperature t) request p = p
+-- ---- no turn changes the facts or the command line
+abbrev SameFacts : (b b′ : Board) → Type 0
+SameFacts b b′ = (b′ .facts ≡ b .facts) × (b′ .line ≡ b .line)
 
 turn-facts : (g : Decision) (b b′ : Board) (r : Request) → SameFacts b b′ → SameFacts b (turnOf g b′ r .state)
 unfolding turnOf
 turn-facts g b b′ passed p = p
 turn-facts g b b′ short p = p
-turn-facts g b b′ (asks (Kind.Outside t) request) p = outside-facts b b′ t request p
+turn-facts g b b′ (asks (Kind.Outside t) request) p = let q = after-facts t request b′ in (q .0 ∙ p .0, q .1 ∙ p .1)
 turn-facts g b b′ (asks (Kind.Group t) request) p = p
 
 -- ---- the answer of a turn
 turn-answer : (g : Decision) (b : Board) (k : Kind) (request : List ℕ) {answer : List ℕ} → turnOf g b (asks k request) .said ≡ says answer
     → answerBy g b k request ≡ answer
-unfolding turnOf
-turn-answer g b (Kind.Outside t) request e = cc
-turn-answer g b (Kind.Group t) request {answer} e = go (g .answered) e
-  where
-    go : (c : Bool) → cond c (says (groupAnswer g t request)) silent ≡ says answer → groupAnswer g t request ≡ answer
-    go true q = cc
-    go false q = absurd (true≢false cc)
-
-no-answer : (g : Decision) (b : Board) {answer : List ℕ} {A : Type 0} → turnOf g b passed .said ≡ says answer → A
-unfolding turnOf
-no-answer g b e = absurd (true≢false cc)
-
-short-silent : (g : Decision) (b : Board) {answer : List ℕ} {A : Type 0} → turnOf g b short .said ≡ says answer → A
-unfolding turnOf
-short-silent g b e = absurd (true≢false cc)
+turn-answer g b k request {answer} e =
+    let q : says (answerBy g b k request) ≡ says answer = sym (spoken g b k request (speaks g b (asks k request) e)) ∙ e in
+    cc
 
 pub answer-lengths : AnswerLengths
 unfolding rowOf
 answer-lengths b m a i answer e = go (cut-there m i)
   where
     at : TurnAt b m (SameFacts b) i
-    at = turn-of b m (SameFacts b) (λ x r p. turn-facts (decisionOf b m) b x r p) (record { facts = refl; line = refl }) i
+    at = turn-of b m (SameFacts b) (λ x r p. turn-facts (decisionOf b m) b x r p) (refl, refl) i
 
     arrays : HasArrays (at .board)
     arrays = record {
-      mac = ap (λ (f : Facts). length (f .mac)) (at .holds .facts) ∙ a .mac;
-      line = ap length (at .holds .line) ∙ a .line;
+      mac = ap (λ (f : Facts). length (f .mac)) (at .holds .0) ∙ a .mac;
+      line = ap length (at .holds .1) ∙ a .line;
     }
 
     says-so : {r : Request} → getD (trailOf m .requests) i passed ≡ r → turnOf (decisionOf b m) (at .board) r .said ≡ says answer
@@ -112,15 +86,15 @@ answer-lengths b m a i answer e = go (cut-there m i)
 
     asked : (r : Request) → requestOf m (tagOf m i) ≡ r → turnOf (decisionOf b m) (at .board) r .said ≡ says answer
         → length answer ≡ lengthIn (b .facts .characters) (tagOf m i .id) table
-    asked passed q s = no-answer (decisionOf b m) (at .board) s
-    asked short q s = short-silent (decisionOf b m) (at .board) s
+    asked passed q s = absurd (speaks (decisionOf b m) (at .board) passed s)
+    asked short q s = absurd (speaks (decisionOf b m) (at .board) short s)
     asked (asks k request) q s =
         ap length (sym (turn-answer (decisionOf b m) (at .board) k request s))
         ∙ found-length (decisionOf b m) (at .board) request (tagOf m i .id) table (table-lengths (decisionOf b m) (at .board) request arrays)
         (has-asked m (tagOf m i) q .row)
-        ∙ ap (λ (f : Facts). lengthIn (f .characters) (tagOf m i .id) table) (at .holds .facts)
+        ∙ ap (λ (f : Facts). lengthIn (f .characters) (tagOf m i .id) table) (at .holds .0)
 
     go : CutAt m (tagOf m i) (trailOf m) (getD (trailOf m .requests) i passed) → length answer ≡ lengthIn (b .facts .characters) (tagOf m i .id) table
     go (cut-before q ns o) = asked (requestOf m (tagOf m i)) refl (says-so q)
-    go (cut-behind q nd l) = no-answer (decisionOf b m) (at .board) (says-so q)
-    go (cut-none q z) = no-answer (decisionOf b m) (at .board) (says-so q)
+    go (cut-behind q nd l) = absurd (speaks (decisionOf b m) (at .board) passed (says-so q))
+    go (cut-none q z) = absurd (speaks (decisionOf b m) (at .board) passed (says-so q))

@@ -1,8 +1,8 @@
 -- Which tags are answered.
-use mathlib.Core.Bool.{Bool, true, false, cond, true≢false}
+use mathlib.Core.Bool.{true≢false}
 use mathlib.Core.List.{List, [], _∷_}
 use mathlib.Core.Logic.{_⊎_, inl, inr}
-use mathlib.Core.Path.{_≡_, refl, sym, ap, _∙_}
+use mathlib.Core.Path.{_≡_, refl, sym, _∙_}
 use Prim.Native.Nat.{ℕ, zero, suc, _≤_, _<_}
 use native.Mathlib.Omega.{arith}
 use lib.ListN.{length, getD}
@@ -14,45 +14,17 @@ use Rattle.board.specs.declared.record.Board.{Board}
 use Rattle.table.specs.Table.{outsideTags, groupTags, table, rowOf}
 use Rattle.table.specs.declared.kinds.Kind.{Kind}
 use Rattle.table.specs.declared.rows.Row.{Row}
-use Rattle.tags.specs.Outside.{outsideAnswer}
-use Rattle.display.specs.Decision.{groupAnswer}
-use Rattle.display.specs.declared.decision.Decision.{Decision}
 use Rattle.requests.proofs.Laws.Endings.{ending-outcome}
 use Rattle.requests.specs.Requests.{Request, passed, short, asks, valueOf, requestBytes, requestOf, WalkOutcome}
 use Rattle.responder.specs.Answers.{turnOf}
 use Rattle.responder.specs.Reply.{served, reply}
-use Rattle.responder.specs.Turns.{silent, says}
+use Rattle.responder.specs.Turns.{says}
 use Rattle.demands.proofs.Laws.Cuts.{has-asked, asks-unless-short, CutAt, cut-before, cut-behind, cut-none}
-use Rattle.demands.proofs.Laws.Mixed.{answered-faultless, answered-apart, apart-answered}
-use Rattle.demands.proofs.Laws.TurnAt.{TurnAt, turn-of, cut-there}
+use Rattle.demands.proofs.Laws.Mixed.{answered-faultless, answered-unmixed, unmixed-answered}
+use Rattle.demands.proofs.Laws.TurnAt.{TurnAt, turn-of, Speaks, answerBy, speaks, spoken, cut-there}
 use Rattle.demands.proofs.Laws.Replied.{Replied, untouched, walked, replied, clash}
 use Rattle.demands.specs.AnsweredWhen.{testOf, Answerable, AnsweredWhen}
 use Rattle.demands.specs.Terms.{noTag, walkOf, tagOf, trailOf, decisionOf, Answered, Faultless}
-
--- which turns say something: outside the group every one, in it those of a group that is answered
-abbrev Speaks : Decision → Request → Type 0
-Speaks g passed = ⊥
-Speaks g short = ⊥
-Speaks g (asks (Kind.Outside t) request) = Unit {0}
-Speaks g (asks (Kind.Group t) request) = g .answered ≡ true
-
-speaks : (g : Decision) (b : Board) (r : Request) {answer : List ℕ} → turnOf g b r .said ≡ says answer → Speaks g r
-unfolding turnOf
-speaks g b passed e = true≢false cc
-speaks g b short e = true≢false cc
-speaks g b (asks (Kind.Outside t) request) e = tt
-speaks g b (asks (Kind.Group t) request) {answer} e = go (g .answered) e
-  where
-    go : (c : Bool) → cond c (says (groupAnswer g t request)) silent ≡ says answer → c ≡ true
-    go true q = refl
-    go false q = absurd (true≢false cc)
-
-spoken : (g : Decision) (b : Board) (r : Request) → Speaks g r → (answer : List ℕ) × (turnOf g b r .said ≡ says answer)
-unfolding turnOf
-spoken g b passed s = absurd s
-spoken g b short s = absurd s
-spoken g b (asks (Kind.Outside t) request) s = (outsideAnswer t request b, refl)
-spoken g b (asks (Kind.Group t) request) s = (groupAnswer g t request, ap (λ (c : Bool). cond c (says (groupAnswer g t request)) silent) s)
 
 -- no tag has the id 0
 no-row : {k : Kind} {n : ℕ} → rowOf 0 ≡ Row.Known k n → ⊥
@@ -91,11 +63,11 @@ module _ (b : Board) (m : List ℕ) (i : ℕ) where
         stands (inl d) = inl (outcome-is ∙ d)
         stands (inr l) = inr (rw place-is l)
 
-        from : (q : Request) → requestOf m t ≡ q → r ≡ q → Speaks (decisionOf b m) q
+        from : (q : Request) → requestOf m t ≡ q → Speaks (decisionOf b m) q
             → (trailOf m .ending .outcome ≡ done) ⊎ (t .at < trailOf m .ending .place) → Answerable b m t
-        from passed e f x o = absurd x
-        from short e f x o = absurd x
-        from (asks (Kind.Outside k) request) e f x o =
+        from passed e x o = absurd x
+        from short e x o = absurd x
+        from (asks (Kind.Outside k) request) e x o =
             let h = has-asked m t e in
             record {
               known = (Kind.Outside k, h .least, h .row);
@@ -104,7 +76,7 @@ module _ (b : Board) (m : List ℕ) (i : ℕ) where
               group = λ w. let z : Row.Known (Kind.Outside k) (h .least) ≡ Row.Known (Kind.Group (w .0)) (w .1) = sym (h .row) ∙ w .2 in
                   absurd (true≢false cc);
             }
-        from (asks (Kind.Group k) request) e f x o =
+        from (asks (Kind.Group k) request) e x o =
             let h = has-asked m t e in
             record {
               known = (Kind.Group k, h .least, h .row);
@@ -112,34 +84,37 @@ module _ (b : Board) (m : List ℕ) (i : ℕ) where
               before = stands o;
               group = λ w. (
                 outcome-is ∙ answered-faultless (b .display) (trailOf m .ending) (trailOf m .requests) x,
-                λ n. answered-apart (b .display) (trailOf m .ending) (trailOf m .requests) x (n .0 .0) (n .1 .0) (n .0 .1) (n .1 .1),
+                λ n. answered-unmixed (b .display) (trailOf m .ending) (trailOf m .requests) x (n .0 .0) (n .1 .0) (n .0 .1) (n .1 .1),
               );
             }
 
         go : CutAt m t (trailOf m) r → Answerable b m t
-        go (cut-before q ns o) = from (requestOf m t) refl q (rw q at s) o
+        go (cut-before q ns o) = from (requestOf m t) refl (rw q at s) o
         go (cut-behind q nd l) = absurd (rw q at s)
         go (cut-none q z) = absurd (rw q at s)
 
     -- and one that has is answered
-    has-speaks : Answerable b m t → Speaks (decisionOf b m) r
-    has-speaks a = go there
+    has-says : (b′ : Board) → Answerable b m t → (answer : List ℕ) × (turnOf (decisionOf b m) b′ r .said ≡ says answer)
+    has-says b′ a = go there
       where
         asked : (k : Kind) (n : ℕ) → rowOf (t .id) ≡ Row.Known k n → (request : List ℕ) → r ≡ asks k request → Speaks (decisionOf b m) (asks k request)
         asked (Kind.Outside k) n row request e = tt
         asked (Kind.Group k) n row request e =
             let g = a .group (k, n, row) in
-            apart-answered (b .display) (trailOf m .ending) (trailOf m .requests) (sym outcome-is ∙ g .0) (λ x y. g .1 (x, y)) (testOf k) i (rw e refl)
+            unmixed-answered (b .display) (trailOf m .ending) (trailOf m .requests) (sym outcome-is ∙ g .0) (λ x y. g .1 (x, y)) (testOf k) i (rw e refl)
 
         late : Faultless b m ⊎ (t .at < reply b m .answer .place) → (trailOf m .ending .outcome ≡ done → ⊥) → trailOf m .ending .place ≤ t .at → ⊥
         late (inl d) nd l = nd (sym outcome-is ∙ d)
         late (inr x) nd l = let p = place-is in omega arith
 
-        go : CutAt m t (trailOf m) r → Speaks (decisionOf b m) r
+        go : CutAt m t (trailOf m) r → (answer : List ℕ) × (turnOf (decisionOf b m) b′ r .said ≡ says answer)
         go (cut-before q ns o) =
             let k = a .known in
-            let e = q ∙ asks-unless-short m t (k .2) (a .bit-clear) ns in
-            rw e (asked (k .0) (k .1) (k .2) (requestBytes (k .0) (k .1) (t .size) (valueOf m t)) e)
+            let request = requestBytes (k .0) (k .1) (t .size) (valueOf m t) in
+            let e = q ∙ asks-unless-short m t (k .2) (a .bit-clear) ns in (
+              answerBy (decisionOf b m) b′ (k .0) request,
+              rw e (spoken (decisionOf b m) b′ (k .0) request (asked (k .0) (k .1) (k .2) request e)),
+            )
         go (cut-behind q nd l) = absurd (late (a .before) nd l)
         go (cut-none q z) = let k = a .known in absurd (no-row (rw z at (k .2)))
 
@@ -161,7 +136,7 @@ module _ (b : Board) (m : List ℕ) (i : ℕ) where
       go : Replied b m → Answered b m i
       go (untouched o e f z) = absurd (clash (reply b m .answer .outcome) (early (a .before) z) o)
       go (walked v g e) =
-          let s = spoken (decisionOf b m) (said-at .board) r (has-speaks e a) in
+          let s = has-says e (said-at .board) a in
           (rw (outcome-is e) (ending-outcome m (word m 0) header), (s .0, said-at .said ∙ s .1))
 
 pub answered-when : AnsweredWhen

@@ -12,9 +12,9 @@ use Rattle.demands.specs.AnsweredWhen.{Mixes}
 use Rattle.demands.specs.DisplayKept.{OnlyTests, DisplayKept}
 use Rattle.demands.specs.Terms.{trailOf, Faultless}
 
-pub display-kept : DisplayKept
+pub display-stays : DisplayKept
 unfolding served
-display-kept b m h = go (replied b m)
+display-stays b m h = go (replied b m)
   where
     at-fault : reply b m .answer .outcome ≡ trailOf m .ending .outcome → (Faultless b m → ⊥) ⊎ (Mixes m ⊎ OnlyTests m)
         → (trailOf m .ending .outcome ≡ done → ⊥) ⊎ (Mixes m ⊎ OnlyTests m)

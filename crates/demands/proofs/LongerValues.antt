@@ -27,7 +27,7 @@ use Rattle.responder.specs.Reply.{served, reply}
 use Rattle.responder.specs.Turns.{Said, silent, says, Turns, turns}
 use Rattle.responder.specs.declared.respond.Served.{Served}
 use Rattle.demands.proofs.AnsweredWhen.{answered-inside}
-use Rattle.demands.proofs.Laws.Alike.{Alike, alike-by-index, requests-same, walk-done, SameHeader, paired-after, paired-words, alike-at}
+use Rattle.demands.proofs.Laws.Alike.{Alike, alike-by-index, requests-same, walk-done, SameHeader, paired-after, paired-words, alike-id}
 use Rattle.demands.proofs.Laws.Alike.{alike-length, alike-occurrence}
 use Rattle.demands.proofs.Laws.ReadBack.{stored-is}
 use Rattle.demands.proofs.Laws.Replied.{Replied, untouched, walked, replied, clash}
@@ -110,7 +110,7 @@ ends-alike e e′ d d′ =
 -- ---- the claim
 module _ (b : Board) (m m′ : List ℕ) (p : AlikeButLonger b m m′) where
   a : Alike m m′ (walkOf m .tags) (walkOf m′ .tags)
-  a = alike-by-index m m′ (walkOf m .tags) (walkOf m′ .tags) (p .same-ids) (p .words-before) (p .same-requests) (p .longer)
+  a = alike-by-index m m′ (walkOf m .tags) (walkOf m′ .tags) (p .same-ids) (p .words-before) (p .same-requests)
 
   f : ServedFaultless b m
   f = served-faultless b m (p .faultless)
@@ -212,10 +212,10 @@ module _ (b : Board) (m m′ : List ℕ) (p : AlikeButLonger b m m′) where
     seeks′ : (l : i < length (walkOf m .tags)) → readingOf b m′ id n wanted ≡ readingAt b m′ i wanted
     seeks′ l =
         let s = sought-at id n (walkOf m .tags) l in
-        let same = alike-at m m′ (walkOf m .tags) (walkOf m′ .tags) i a in
         ap (λ (k : ℕ). readingOf b m′ id k wanted)
         (sym (s .occurs) ∙ alike-occurrence m m′ (walkOf m .tags) (walkOf m′ .tags) id i a)
-        ∙ ap (λ (x : ℕ). readingOf b m′ x (length (withId x (take i (walkOf m′ .tags)))) wanted) (sym (s .named) ∙ same .id)
+        ∙ ap (λ (x : ℕ). readingOf b m′ x (length (withId x (take i (walkOf m′ .tags)))) wanted)
+        (sym (s .named) ∙ alike-id m m′ (walkOf m .tags) (walkOf m′ .tags) i a)
 
     read-alike : ReadAlike b m m′ id n wanted
     read-alike = record {

@@ -40,7 +40,7 @@ use Rattle.responder.specs.Turns.{Said, silent, says}
 use Rattle.demands.proofs.AnswerLengths.{answer-lengths}
 use Rattle.demands.proofs.AnsweredWhen.{answered-when}
 use Rattle.demands.proofs.Changes.{numbered, changes, same-length, refusals}
-use Rattle.demands.proofs.DisplayKept.{display-kept}
+use Rattle.demands.proofs.DisplayKept.{display-stays}
 use Rattle.demands.proofs.Kept.{kept}
 use Rattle.demands.proofs.ReadingBack.{every-tag-sought, code-word, reads}
 use Rattle.demands.proofs.Walked.{walked-is}
@@ -190,7 +190,7 @@ mixed-silent a =
 -- `DisplayKept`: so the depth stays
 pub mixed-kept : reply bench testBesideSet .answer .board .display ≡ bench .display
 unfolding numberAt trail walkFrom step overruns tagAt requestOf requestBy requestBytes rowOf table outsideTags groupTags
-mixed-kept = display-kept bench testBesideSet (inr (inl ((0, refl), (1, refl))))
+mixed-kept = display-stays bench testBesideSet (inr (inl ((0, refl), (1, refl))))
 
 -- ---- `Numbered` and `Refusals`: eleven bytes; a size of 14; a code word of 1; a record with an absent device that is on
 abbrev eleven : List ℕ

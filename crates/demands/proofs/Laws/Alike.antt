@@ -2,7 +2,7 @@
 use mathlib.Core.Bool.{Bool, true, false, cond, true≢false}
 use mathlib.Core.List.{List, [], _∷_, map}
 use mathlib.Core.Path.{_≡_, refl, sym, ap, _∙_}
-use Prim.Native.Nat.{ℕ, zero, suc, _≤_, _<_}
+use Prim.Native.Nat.{ℕ, zero, suc, _<_}
 use native.Mathlib.Omega.{arith}
 use borrow.Author.Tests.{leb-false}
 use lib.Dec.{ltb, eqb}
@@ -21,8 +21,7 @@ use Rattle.demands.specs.LongerValues.{SameRequest}
 use Rattle.demands.specs.Terms.{noTag}
 use Rattle.demands.specs.Walked.{tagsAfter}
 
--- the tags pair off in order, as many in both: ids and tag words are the same, requests too, and each value of the second is
--- at least as long
+-- the tags pair off in order, as many in both: ids, tag words and requests are the same
 abbrev pub Alike : (m m′ : List ℕ) → List Tag → List Tag → Type 0
 Alike m m′ [] [] = Unit {0}
 Alike m m′ [] (t′ ∷ ts′) = ⊥
@@ -30,27 +29,20 @@ Alike m m′ (t ∷ ts) [] = ⊥
 Alike m m′ (t ∷ ts) (t′ ∷ ts′) =
     (t .id ≡ t′ .id)
     × (t .word ≡ t′ .word)
-    × (t .size ≤ t′ .size)
     × SameRequest m m′ t t′
     × Alike m m′ ts ts′
 
 pub alike-by-index : (m m′ : List ℕ) (ts ts′ : List Tag) → map (λ t. t .id) ts ≡ map (λ t. t .id) ts′ → map (λ t. t .word) ts ≡ map (λ t. t .word) ts′
-    → ((i : ℕ) → i < length ts → SameRequest m m′ (getD ts i noTag) (getD ts′ i noTag))
-    → ((i : ℕ) → i < length ts → getD ts i noTag .size ≤ getD ts′ i noTag .size) → Alike m m′ ts ts′
-alike-by-index m m′ [] [] ids words requests longer = tt
-alike-by-index m m′ [] (t′ ∷ ts′) ids words requests longer = true≢false cc
-alike-by-index m m′ (t ∷ ts) [] ids words requests longer = true≢false cc
-alike-by-index m m′ (t ∷ ts) (t′ ∷ ts′) ids words requests longer =
+    → ((i : ℕ) → i < length ts → SameRequest m m′ (getD ts i noTag) (getD ts′ i noTag)) → Alike m m′ ts ts′
+alike-by-index m m′ [] [] ids words requests = tt
+alike-by-index m m′ [] (t′ ∷ ts′) ids words requests = true≢false cc
+alike-by-index m m′ (t ∷ ts) [] ids words requests = true≢false cc
+alike-by-index m m′ (t ∷ ts) (t′ ∷ ts′) ids words requests =
     let id : t .id ≡ t′ .id = cc in
     let word : t .word ≡ t′ .word = cc in
     let later-ids : map (λ (u : Tag). u .id) ts ≡ map (λ (u : Tag). u .id) ts′ = cc in
-    let later-words : map (λ (u : Tag). u .word) ts ≡ map (λ (u : Tag). u .word) ts′ = cc in (
-      id,
-      word,
-      longer 0 (omega arith),
-      requests 0 (omega arith),
-      alike-by-index m m′ ts ts′ later-ids later-words (λ i l. requests (suc i) (omega arith)) (λ i l. longer (suc i) (omega arith)),
-    )
+    let later-words : map (λ (u : Tag). u .word) ts ≡ map (λ (u : Tag). u .word) ts′ = cc in
+    (id, word, requests 0 (omega arith), alike-by-index m m′ ts ts′ later-ids later-words (λ i l. requests (suc i) (omega arith)))
 
 -- ---- one pair
 request-pair : (m m′ : List ℕ) (t t′ : Tag) → t .id ≡ t′ .id → t .word ≡ t′ .word → SameRequest m m′ t t′ → (requestOf m t ≡ short → ⊥)
@@ -100,8 +92,8 @@ requests-same m m′ (t ∷ ts) [] e e′ a d d′ = absurd a
 requests-same m m′ (t ∷ ts) (t′ ∷ ts′) e e′ a d d′ =
     let n = by-not-short m t (cut m ts e) (requestOf m t) d in
     let n′ = by-not-short m′ t′ (cut m′ ts′ e′) (requestOf m′ t′) d′ in
-    let h = request-pair m m′ t t′ (a .0) (a .1) (a .3) n n′ in
-    let ih = requests-same m m′ ts ts′ e e′ (a .4) (by-ending m t (cut m ts e) (requestOf m t) d) (by-ending m′ t′ (cut m′ ts′ e′) (requestOf m′ t′) d′) in
+    let h = request-pair m m′ t t′ (a .0) (a .1) (a .2) n n′ in
+    let ih = requests-same m m′ ts ts′ e e′ (a .3) (by-ending m t (cut m ts e) (requestOf m t) d) (by-ending m′ t′ (cut m′ ts′ e′) (requestOf m′ t′) d′) in
     by-requests m t (cut m ts e) (requestOf m t) n ∙ ap (λ (r : Request). r ∷ cut m ts e .requests) h ∙ ap (λ (rs : List Request). requestOf m′ t′ ∷
     rs) ih ∙ sym (by-requests m′ t′ (cut m′ ts′ e′) (requestOf m′ t′) n′)
 
@@ -119,37 +111,33 @@ pub paired-after : (m m′ : List ℕ) (ts ts′ : List Tag) (ss : List Said) �
 paired-after m m′ [] [] ss a = no-pair
 paired-after m m′ [] (t′ ∷ ts′) ss a = absurd a
 paired-after m m′ (t ∷ ts) [] ss a = absurd a
-paired-after m m′ (t ∷ ts) (t′ ∷ ts′) [] a = one-pair (record { id = a .0; word = a .1 }) (untold m m′ ts ts′ (a .4))
+paired-after m m′ (t ∷ ts) (t′ ∷ ts′) [] a = one-pair (record { id = a .0; word = a .1 }) (untold m m′ ts ts′ (a .3))
   where
     untold : (m m′ : List ℕ) (us us′ : List Tag) → Alike m m′ us us′ → Paired SameHeader us us′
     untold m m′ [] [] q = no-pair
     untold m m′ [] (u′ ∷ us′) q = absurd q
     untold m m′ (u ∷ us) [] q = absurd q
-    untold m m′ (u ∷ us) (u′ ∷ us′) q = one-pair (record { id = q .0; word = q .1 }) (untold m m′ us us′ (q .4))
-paired-after m m′ (t ∷ ts) (t′ ∷ ts′) (silent ∷ ss) a = one-pair (record { id = a .0; word = a .1 }) (paired-after m m′ ts ts′ ss (a .4))
-paired-after m m′ (t ∷ ts) (t′ ∷ ts′) (says x ∷ ss) a = one-pair (record { id = a .0; word = refl }) (paired-after m m′ ts ts′ ss (a .4))
+    untold m m′ (u ∷ us) (u′ ∷ us′) q = one-pair (record { id = q .0; word = q .1 }) (untold m m′ us us′ (q .3))
+paired-after m m′ (t ∷ ts) (t′ ∷ ts′) (silent ∷ ss) a = one-pair (record { id = a .0; word = a .1 }) (paired-after m m′ ts ts′ ss (a .3))
+paired-after m m′ (t ∷ ts) (t′ ∷ ts′) (says x ∷ ss) a = one-pair (record { id = a .0; word = refl }) (paired-after m m′ ts ts′ ss (a .3))
 
 pub paired-words : {ts us : List Tag} → Paired SameHeader ts us → map (λ t. t .word) ts ≡ map (λ t. t .word) us
 paired-words no-pair = refl
 paired-words (one-pair {t} {u} {ts} {us} p ps) = ap (λ (n : ℕ). n ∷ map (λ t. t .word) ts) (p .word) ∙ ap (λ (ns : List ℕ). u .word ∷ ns) (paired-words ps)
 
 -- ---- the tags of an index
-pub record PairAt (t t′ : Tag) : Type 0 where
-  pub id : t .id ≡ t′ .id
-  pub size : t .size ≤ t′ .size
-
-pub alike-at : (m m′ : List ℕ) (ts ts′ : List Tag) (i : ℕ) → Alike m m′ ts ts′ → PairAt (getD ts i noTag) (getD ts′ i noTag)
-alike-at m m′ [] [] i a = record { id = refl; size = omega arith }
-alike-at m m′ [] (t′ ∷ ts′) i a = absurd a
-alike-at m m′ (t ∷ ts) [] i a = absurd a
-alike-at m m′ (t ∷ ts) (t′ ∷ ts′) zero a = record { id = a .0; size = a .2 }
-alike-at m m′ (t ∷ ts) (t′ ∷ ts′) (suc i) a = alike-at m m′ ts ts′ i (a .4)
+pub alike-id : (m m′ : List ℕ) (ts ts′ : List Tag) (i : ℕ) → Alike m m′ ts ts′ → getD ts i noTag .id ≡ getD ts′ i noTag .id
+alike-id m m′ [] [] i a = refl
+alike-id m m′ [] (t′ ∷ ts′) i a = absurd a
+alike-id m m′ (t ∷ ts) [] i a = absurd a
+alike-id m m′ (t ∷ ts) (t′ ∷ ts′) zero a = a .0
+alike-id m m′ (t ∷ ts) (t′ ∷ ts′) (suc i) a = alike-id m m′ ts ts′ i (a .3)
 
 pub alike-length : (m m′ : List ℕ) (ts ts′ : List Tag) → Alike m m′ ts ts′ → length ts ≡ length ts′
 alike-length m m′ [] [] a = refl
 alike-length m m′ [] (t′ ∷ ts′) a = absurd a
 alike-length m m′ (t ∷ ts) [] a = absurd a
-alike-length m m′ (t ∷ ts) (t′ ∷ ts′) a = ap suc (alike-length m m′ ts ts′ (a .4))
+alike-length m m′ (t ∷ ts) (t′ ∷ ts′) a = ap suc (alike-length m m′ ts ts′ (a .3))
 
 kept-length : (c : Bool) (t t′ : Tag) (ts ts′ : List Tag) → length ts ≡ length ts′ → length (keptTag c t ts) ≡ length (keptTag c t′ ts′)
 kept-length true t t′ ts ts′ e = ap suc e
@@ -161,5 +149,5 @@ alike-occurrence m m′ [] [] id (suc i) a = refl
 alike-occurrence m m′ [] (t′ ∷ ts′) id (suc i) a = absurd a
 alike-occurrence m m′ (t ∷ ts) [] id (suc i) a = absurd a
 alike-occurrence m m′ (t ∷ ts) (t′ ∷ ts′) id (suc i) a =
-    kept-length (eqb (t .id) id) t t′ (withId id (take i ts)) (withId id (take i ts′)) (alike-occurrence m m′ ts ts′ id i (a .4))
+    kept-length (eqb (t .id) id) t t′ (withId id (take i ts)) (withId id (take i ts′)) (alike-occurrence m m′ ts ts′ id i (a .3))
     ∙ ap (λ (k : ℕ). length (keptTag (eqb k id) t′ (withId id (take i ts′)))) (a .0)

@@ -1,4 +1,5 @@
--- The group is answered exactly when the message is faultless, one of its tags asks something, and tests do not come with others.
+-- The group is answered exactly when the message is faultless, one of its tags asks something, and tests do not come with others;
+-- and what leaves the display as it was.
 use mathlib.Core.Bool.{Bool, true, false, not, _||_, true≢false}
 use mathlib.Core.List.{List, [], _∷_}
 use mathlib.Core.Logic.{_⊎_, inl, inr}
@@ -25,25 +26,26 @@ has true o = o .tests
 has false o = o .others
 
 -- ---- one tag more
-tests-noted : (t : FrameTag) (request : List ℕ) (o : Operation) → noted t request o .tests ≡ (testOf t || o .tests)
+-- a test adds a test, another tag another
+noted-either : (t : FrameTag) (request : List ℕ) (o : Operation)
+    → (noted t request o .tests ≡ (testOf t || o .tests)) × (noted t request o .others ≡ (not (testOf t) || o .others))
 unfolding noted
-tests-noted (FrameTag.Get s) request o = refl
-tests-noted (FrameTag.Test s) request o = refl
-tests-noted (FrameTag.Set s) request o = refl
-tests-noted FrameTag.Pitch request o = refl
-tests-noted FrameTag.Allocate request o = refl
-tests-noted FrameTag.Release request o = refl
+noted-either (FrameTag.Get s) request o = (refl, refl)
+noted-either (FrameTag.Test s) request o = (refl, refl)
+noted-either (FrameTag.Set s) request o = (refl, refl)
+noted-either FrameTag.Pitch request o = (refl, refl)
+noted-either FrameTag.Allocate request o = (refl, refl)
+noted-either FrameTag.Release request o = (refl, refl)
 
-others-noted : (t : FrameTag) (request : List ℕ) (o : Operation) → noted t request o .others ≡ (not (testOf t) || o .others)
-unfolding noted
-others-noted (FrameTag.Get s) request o = refl
-others-noted (FrameTag.Test s) request o = refl
-others-noted (FrameTag.Set s) request o = refl
-others-noted FrameTag.Pitch request o = refl
-others-noted FrameTag.Allocate request o = refl
-others-noted FrameTag.Release request o = refl
+abbrev adds-one : (test isTest : Bool) → Bool
+adds-one true isTest = isTest
+adds-one false isTest = not isTest
 
--- a test adds a test, another tag another; what there was stays
+noted-has : (test : Bool) (t : FrameTag) (request : List ℕ) (o : Operation) → has test (noted t request o) ≡ (adds-one test (testOf t) || has test o)
+noted-has true t request o = noted-either t request o .0
+noted-has false t request o = noted-either t request o .1
+
+-- what there was stays, and what is new came from the tag
 pub record OneMore (test : Bool) (r : Request) (x y : Bool) : Type 0 where
   pub keeps : x ≡ true → y ≡ true
   pub adds : AsksGroup test r → y ≡ true
@@ -53,16 +55,13 @@ one-more : (test : Bool) (r : Request) (o : Operation) → OneMore test r (has t
 one-more test passed o = record { keeps = λ e. e; adds = λ a. absurd a; from = λ e. inr e }
 one-more test short o = record { keeps = λ e. e; adds = λ a. absurd a; from = λ e. inr e }
 one-more test (asks (Kind.Outside k) request) o = record { keeps = λ e. e; adds = λ a. absurd a; from = λ e. inr e }
-one-more true (asks (Kind.Group t) request) o = rw (tests-noted t request o) (go (testOf t) (o .tests) refl)
+one-more test (asks (Kind.Group t) request) o = rw (noted-has test t request o) (go test (testOf t) (has test o) refl)
   where
-    go : (b x : Bool) → testOf t ≡ b → OneMore true (asks (Kind.Group t) request) x (b || x)
-    go true x q = record { keeps = λ e. refl; adds = λ a. refl; from = λ e. inl q }
-    go false x q = record { keeps = λ e. e; adds = λ a. absurd (true≢false cc); from = λ e. inr e }
-one-more false (asks (Kind.Group t) request) o = rw (others-noted t request o) (go (testOf t) (o .others) refl)
-  where
-    go : (b x : Bool) → testOf t ≡ b → OneMore false (asks (Kind.Group t) request) x (not b || x)
-    go true x q = record { keeps = λ e. e; adds = λ a. absurd (true≢false cc); from = λ e. inr e }
-    go false x q = record { keeps = λ e. refl; adds = λ a. refl; from = λ e. inl q }
+    go : (c isTest x : Bool) → testOf t ≡ isTest → OneMore c (asks (Kind.Group t) request) x (adds-one c isTest || x)
+    go true true x q = record { keeps = λ e. refl; adds = λ a. refl; from = λ e. inl q }
+    go true false x q = record { keeps = λ e. e; adds = λ a. absurd (true≢false cc); from = λ e. inr e }
+    go false true x q = record { keeps = λ e. e; adds = λ a. absurd (true≢false cc); from = λ e. inr e }
+    go false false x q = record { keeps = λ e. refl; adds = λ a. refl; from = λ e. inl q }
 
 -- ---- all of them
 keeps-all : (test : Bool) (rs : List Request) (o : Operation) → has test o ≡ true → has test (operation o rs) ≡ true
@@ -129,9 +128,9 @@ module _ (d : Display) (e : Ending) (rs : List Request) where
       go true q a = eqb-true _ _ q
       go false q a = absurd (true≢false cc)
 
-  pub answered-apart : groupOf d e rs .answered ≡ true → (i j : ℕ) → AsksGroup true (getD rs i passed) → AsksGroup false (getD rs j passed) → ⊥
+  pub answered-unmixed : groupOf d e rs .answered ≡ true → (i j : ℕ) → AsksGroup true (getD rs i passed) → AsksGroup false (getD rs j passed) → ⊥
   unfolding groupOf decided
-  answered-apart a i j p q =
+  answered-unmixed a i j p q =
       decided-apart (o .tests) (o .others) d o (rw (eq-eqb (e .outcome) done (answered-faultless a)) at a)
       (has-one true rs (unasked (d .settings)) i p) (has-one false rs (unasked (d .settings)) j q)
 
@@ -148,11 +147,11 @@ module _ (d : Display) (e : Ending) (rs : List Request) where
       given (inr y) = absurd (none-yet c y)
 
   -- one that has no fault, does not mix and is asked something is answered
-  pub apart-answered : e .outcome ≡ done
+  pub unmixed-answered : e .outcome ≡ done
       → (((i : ℕ) × AsksGroup true (getD rs i passed)) → ((j : ℕ) × AsksGroup false (getD rs j passed)) → ⊥)
       → (test : Bool) (i : ℕ) → AsksGroup test (getD rs i passed) → groupOf d e rs .answered ≡ true
   unfolding groupOf decided
-  apart-answered f n test i a =
+  unmixed-answered f n test i a =
       rw (eq-eqb (e .outcome) done f)
       (decided-some (o .tests) (o .others) d o (λ p q. n (witness true p) (witness false q)) (one test (has-one test rs (unasked (d .settings)) i a)))
     where

@@ -83,3 +83,13 @@ module _ (d : Display) (request : List ℕ) (b : Board) where
   after-beside (OutsideTag.Clock t) = refl
   after-beside (OutsideTag.Voltage t) = refl
   after-beside (OutsideTag.Temperature t) = refl
+
+-- none of them changes the facts or the command line
+pub after-facts : (k : OutsideTag) (request : List ℕ) (b : Board)
+    → (outsideAfter k request b .facts ≡ b .facts) × (outsideAfter k request b .line ≡ b .line)
+unfolding outsideAfter
+after-facts (OutsideTag.Fact t) request b = (refl, refl)
+after-facts (OutsideTag.Power t) request b = (refl, refl)
+after-facts (OutsideTag.Clock t) request b = (refl, refl)
+after-facts (OutsideTag.Voltage t) request b = (refl, refl)
+after-facts (OutsideTag.Temperature t) request b = (refl, refl)
