@@ -147,7 +147,9 @@ typedef struct {
     uint32_t y;
 } vc_offset;
 
-/* `logical` is the virtual size. Sides are 1 to 4,096, offsets below the virtual size. */
+/* `logical` is the virtual size. Sides are 1 to 4,096. The offset says where in the virtual picture the shown
+ * part begins. On each axis: where the physical side is at most the virtual, offset + physical is at most
+ * virtual; where it is larger, the offset is 0. */
 typedef struct {
     vc_size physical;
     vc_size logical;

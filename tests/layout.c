@@ -63,7 +63,7 @@ static void fill_display(vc_display *display)
     vc_settings *settings = &display->settings;
     settings->physical = (vc_size){.width = 301, .height = 302};
     settings->logical = (vc_size){.width = 303, .height = 304};
-    settings->offset = (vc_offset){.x = 5, .y = 6};
+    settings->offset = (vc_offset){.x = 1, .y = 2};
     settings->depth = 16;
     settings->order = 0;
     settings->alpha = 1;

@@ -12,3 +12,5 @@ pub mod DisplayKept
 pub mod LongerValues
 pub mod ServedMet
 pub mod LongerValuesMet
+pub mod Panning
+pub mod PanningMet

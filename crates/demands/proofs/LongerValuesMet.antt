@@ -37,7 +37,7 @@ unfolding reply served opened goodSize numberAt trail walkFrom step overruns tag
 longer-done = rw bench-valid
 
 -- a tag of a known row, and one of an unknown id
-known-row : (m m′ : List ℕ) (t t′ : Tag) (k : Kind) (n : ℕ) → rowOf (t .id) ≡ Row.Known k n
+pub known-row : (m m′ : List ℕ) (t t′ : Tag) (k : Kind) (n : ℕ) → rowOf (t .id) ≡ Row.Known k n
     → requestBytes k n (t .size) (valueOf m t) ≡ requestBytes k n (t′ .size) (valueOf m′ t′) → SameRequest m m′ t t′
 known-row m m′ t t′ k n r e k′ n′ r′ w =
     let q : Row.Known k n ≡ Row.Known k′ n′ = sym r ∙ r′ in

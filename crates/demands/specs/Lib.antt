@@ -9,3 +9,4 @@ pub mod DisplayKept
 pub mod Walked
 pub mod ReadingBack
 pub mod LongerValues
+pub mod Panning

@@ -101,6 +101,21 @@ labStanding = screenOf 640 480 24 labRegion (span 0x3C00_0000 0x000E_1000)
 abbrev pub largeScreen : (base extent : ℕ) (buffer : Span) → Display
 largeScreen base extent buffer = screenOf 4096 4096 32 (span base extent) buffer
 
+-- 800 x 480 shown of a virtual 800 x 960, from a row on
+abbrev pub shownFrom : (row : ℕ) → Display
+shownFrom row = record {
+  region = labRegion;
+  settings = record {
+    physical = record { width = 800; height = 480 };
+    logical = record { width = 800; height = 960 };
+    offset = record { x = 0; y = row };
+    depth = 32;
+    order = 1;
+    alpha = 2;
+  };
+  buffer = nowhere;
+}
+
 unfoldable pub groupCases : List GroupCase
 groupCases =
     groupCase (Alignment 0) (IsAlignment false)
@@ -133,6 +148,14 @@ groupCases =
     ∷ groupCase (Operated labStanding (setTag Setting.Depth (le 4 32) ∷ releaseTag ∷ [])) (Answers (le 4 32 ∷ [] ∷ []) (screenOf 640 480 32 labRegion nowhere))
     ∷ groupCase (Operated labStanding (setTag Setting.Depth (le 4 25) ∷ releaseTag ∷ [])) (Answers (le 4 24 ∷ [] ∷ []) labStanding)
     ∷ groupCase (Operated labStanding (allocateTag 16 ∷ releaseTag ∷ [])) (Answers (labBuffer ∷ [] ∷ []) labStanding)
+    -- virtual offsets
+    ∷ groupCase (Operated benchDisplay (setTag Setting.Virtual (twoWords 800 960) ∷ setTag Setting.Offset (twoWords 0 480) ∷ []))
+    (Answers (twoWords 800 960 ∷ twoWords 0 480 ∷ []) (shownFrom 480))
+    ∷ groupCase (Operated (shownFrom 480) (setTag Setting.Offset (twoWords 0 481) ∷ [])) (Answers (twoWords 0 480 ∷ []) (shownFrom 480))
+    ∷ groupCase (Operated (shownFrom 480) (setTag Setting.Virtual (twoWords 800 959) ∷ [])) (Answers (twoWords 800 960 ∷ []) (shownFrom 480))
+    ∷ groupCase (Operated (shownFrom 480) (testTag Setting.Offset (twoWords 0 0xFFFF_FE20) ∷ [])) (Answers (twoWords 0 480 ∷ []) (shownFrom 480))
+    ∷ groupCase (Operated benchDisplay (testTag Setting.Physical (twoWords 1024 768) ∷ testTag Setting.Offset (twoWords 1 0) ∷ []))
+    (Answers (twoWords 800 480 ∷ twoWords 0 0 ∷ []) benchDisplay)
     ∷ []
 
 pub group-examples : map (λ (c : GroupCase). groupReply (c .asks-for)) groupCases ≡ map (λ (c : GroupCase). c .gets) groupCases

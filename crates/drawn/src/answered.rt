@@ -32,15 +32,29 @@ pub fn eleven()
     serve_and_draw(b"lent 11", bench_record(), &mut lent);
 }
 
-// A message of no tags, on a record whose DMA mask has bit 16.
+// A message of no tags.
+fn serve_empty(name: &[u8], board: Board) {
+    let mut lent = [0u8; 12];
+    lent[0] = 12;
+    serve_and_draw(name, board, &mut lent);
+}
+
+// A record whose DMA mask has bit 16.
 pub fn invalid()
     ensures { λ r. ⌜ r ≡ tt ⌝ }
 {
     let mut board = bench_record();
     board.facts.dma = 0x1_0000;
-    let mut lent = [0u8; 12];
-    lent[0] = 12;
-    serve_and_draw(b"record not valid", board, &mut lent);
+    serve_empty(b"record not valid", board);
+}
+
+// A record that shows 800 columns of a virtual picture of 800, from column 799 on.
+pub fn beyond_picture()
+    ensures { λ r. ⌜ r ≡ tt ⌝ }
+{
+    let mut board = bench_record();
+    board.display.settings.offset.x = 799;
+    serve_empty(b"record with offset 799 of 800", board);
 }
 
 // A message of no tags with this size word, in 65,540 bytes.

@@ -16,6 +16,7 @@ fn main() {
     built::refused_calls();
     answered::eleven();
     answered::invalid();
+    answered::beyond_picture();
     answered::long_message(b"size 65532", 65532);
     answered::long_message(b"size 65536", 65536);
     answered::long_message(b"size 65540", 65540);

@@ -91,17 +91,30 @@ fn size(random: &mut Random) -> Size {
     Size { width: side(random), height: side(random) }
 }
 
+/// The last offset on an axis that is supported.
+pub fn last_offset(physical: u32, logical: u32) -> u32 {
+    logical.saturating_sub(physical)
+}
+
+fn offset(random: &mut Random, physical: u32, logical: u32) -> u32 {
+    let last = last_offset(physical, logical);
+    match random.below(3) {
+        0 => 0,
+        1 => last,
+        _ => random.between(0, last),
+    }
+}
+
 fn settings(random: &mut Random) -> Settings {
+    let physical = size(random);
     let logical = size(random);
-    let offset = match random.below(3) {
-        0 => Offset { x: 0, y: 0 },
-        1 => Offset { x: logical.width - 1, y: logical.height - 1 },
-        _ => Offset { x: random.below(logical.width), y: random.below(logical.height) },
-    };
     Settings {
-        physical: size(random),
+        physical,
         logical,
-        offset,
+        offset: Offset {
+            x: offset(random, physical.width, logical.width),
+            y: offset(random, physical.height, logical.height),
+        },
         depth: random.pick(&[8, 16, 24, 32]),
         order: random.below(2),
         alpha: random.below(3),

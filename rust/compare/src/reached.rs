@@ -3,6 +3,7 @@
 mod group;
 mod kinds;
 mod messages;
+mod offsets;
 
 use crate::case::Call;
 use crate::known;
@@ -20,6 +21,8 @@ pub enum Thing {
     Tag(u32),
     /// A case of the frame buffer group.
     Group(&'static str),
+    /// An axis, a kind of virtual offset on it, and what has it: a set, a test or a record.
+    Offset(&'static str, &'static str, &'static str),
     /// An alignment that was decided on.
     Alignment(u32),
     /// A command line of this length answered.
@@ -36,6 +39,7 @@ impl fmt::Display for Thing {
             Thing::Outcome(function, outcome) => write!(to, "{function} gives {outcome}"),
             Thing::Tag(id) => write!(to, "tag {id:08x} answered"),
             Thing::Group(case) => write!(to, "group {case}"),
+            Thing::Offset(axis, kind, asked) => write!(to, "{axis} offset {kind}, {asked}"),
             Thing::Alignment(alignment) => write!(to, "group with alignment {alignment}"),
             Thing::Line(length) => write!(to, "command line of {length} answered"),
             Thing::Address(rest) => write!(to, "message at an address of {rest} modulo 16"),
@@ -90,6 +94,7 @@ impl Reached {
         let tags = walk::tags(before.bytes.lent());
         self.add(Thing::Address(after.address));
         self.count_message(before, after, &tags);
+        self.count_stored_offset(&before.board, after.numbers[0]);
         for tag in &tags {
             let answered = word(after.bytes.lent(), tag.at + 8) & ANSWERED != 0;
             if tag.is_request() && answered {
@@ -104,17 +109,21 @@ impl Reached {
         }
     }
 
-    /// A line for each thing reached, with its count; of alignments, command lines and addresses the
-    /// count of the rarest.
+    /// A line for each thing reached, with its count; of virtual offsets, alignments, command lines and
+    /// addresses the count of the rarest.
     pub fn print(&self) {
-        for (thing, count) in &self.counts {
-            if !matches!(thing, Thing::Alignment(_) | Thing::Line(_) | Thing::Address(_)) {
-                println!("{count:>9}  {thing}");
-            }
+        let alike = |thing: &Thing| {
+            let numbers = matches!(thing, Thing::Alignment(_) | Thing::Line(_) | Thing::Address(_));
+            numbers || matches!(thing, Thing::Offset(..))
+        };
+        for (thing, count) in self.counts.iter().filter(|(thing, _)| !alike(thing)) {
+            println!("{count:>9}  {thing}");
         }
         let rarest = |things: &mut dyn Iterator<Item = Thing>| {
             things.filter_map(|thing| self.counts.get(&thing)).min().map_or(0, |least| *least)
         };
+        let offset = rarest(&mut offsets::all());
+        println!("{offset:>9}  or more for each kind of virtual offset: on x and y, set, tested and stored");
         let alignment = rarest(&mut group::alignments());
         println!("{alignment:>9}  or more for each alignment: powers of two, 0 and 24");
         let line = rarest(&mut LINES.into_iter().map(Thing::Line));
@@ -133,7 +142,7 @@ impl Reached {
         let addresses = (0..16).map(Thing::Address);
         let all = outcomes.chain(tags).chain(lines).chain(addresses);
         let all = all.chain(group::cases()).chain(group::alignments());
-        let all = all.chain(kinds::all()).chain(messages::all());
+        let all = all.chain(kinds::all()).chain(messages::all()).chain(offsets::all());
         all.filter(|thing| !self.counts.contains_key(thing)).collect()
     }
 }

@@ -1,6 +1,6 @@
 //! Random request words that a tag's id makes sense of.
 
-use crate::boards::side;
+use crate::boards::{last_offset, side};
 use crate::known::SET_CLOCK_RATE;
 use crate::random::Random;
 use crate::walk::put_word;
@@ -82,8 +82,9 @@ fn group_request(random: &mut Random, settings: &Settings, property: u32) -> (u3
             (side_near(random, now.width), side_near(random, now.height))
         }
         9 => {
-            let most = settings.logical;
-            (place_near(random, most.width), place_near(random, most.height))
+            let Settings { physical, logical, .. } = *settings;
+            let x = offset_near(random, physical.width, logical.width);
+            (x, offset_near(random, physical.height, logical.height))
         }
         5 if rare => (random.pick(&[0, 1, 7, 9, 12, 15, 25, 33, 40, 64]), 0),
         5 => (perhaps_high(random, settings.depth, &[8, 16, 24, 32]), 0),
@@ -117,14 +118,29 @@ fn side_near(random: &mut Random, now: u32) -> u32 {
     }
 }
 
-fn place_near(random: &mut Random, limit: u32) -> u32 {
+fn offset_near(random: &mut Random, physical: u32, logical: u32) -> u32 {
+    let last = last_offset(physical, logical);
     match random.below(24) {
-        0..=1 => limit,
-        2..=3 => limit.wrapping_sub(1),
-        4 => random.number(),
-        5 => random.with_high_bit(0, 12),
-        6..=13 => random.below(8),
+        0 => random.number(),
+        1 => random.with_high_bit(0, 12),
+        2..=4 => past_offset(random, physical, logical),
+        5..=8 => last,
+        9..=13 => random.between(0, last),
+        14..=15 => random.below(8),
         _ => 0,
+    }
+}
+
+/// An offset on an axis that is not supported.
+pub fn past_offset(random: &mut Random, physical: u32, logical: u32) -> u32 {
+    let past = last_offset(physical, logical).saturating_add(1);
+    match random.below(5) {
+        0 => past,
+        1 => past.wrapping_add(random.below(physical)),
+        2 => logical.saturating_sub(random.below(2)).max(past),
+        // The sum with the physical side is small once its high bits are lost.
+        3 => random.below(physical.min(logical)).wrapping_sub(physical),
+        _ => random.between(past, u32::MAX),
     }
 }
 

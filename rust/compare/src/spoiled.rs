@@ -3,6 +3,7 @@
 use crate::boards::need;
 use crate::fields;
 use crate::random::Random;
+use crate::requests::past_offset;
 use interface::*;
 
 /// Breaks a rule of a valid record, or changes fields at random.
@@ -63,6 +64,7 @@ fn spoil_items(random: &mut Random, board: &mut Board) {
 
 fn spoil_settings(random: &mut Random, display: &mut Display) {
     let settings = &mut display.settings;
+    let Settings { physical, logical, .. } = *settings;
     let out = random.pick(&[0, 4_097, 4_098, 0x8000_0000, u32::MAX]);
     match random.below(10) {
         0 => settings.physical.width = out,
@@ -72,8 +74,8 @@ fn spoil_settings(random: &mut Random, display: &mut Display) {
         4 => settings.depth = random.pick(&[0, 1, 4, 7, 9, 15, 25, 40, 64, 0x108, 0x8000_0020]),
         5 => settings.order = random.pick(&[2, 3, 0x100, u32::MAX]),
         6 => settings.alpha = random.pick(&[3, 4, 0x102, u32::MAX]),
-        7 => settings.offset.x = settings.logical.width + random.below(2),
-        8 => settings.offset.y = settings.logical.height + random.below(2),
+        7 => settings.offset.x = past_offset(random, physical.width, logical.width),
+        8 => settings.offset.y = past_offset(random, physical.height, logical.height),
         _ => display.region.size = need(settings) - random.between(1, 3),
     }
 }

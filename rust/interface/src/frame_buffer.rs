@@ -78,6 +78,12 @@ pub fn need(settings: &Settings) -> u32 {
     pitch(settings) * settings.logical.height
 }
 
+/// Along one axis, whether what is shown from the offset on ends within the virtual side. A longer
+/// physical side cannot be moved at all.
+fn in_view(physical: u32, logical: u32, offset: u32) -> bool {
+    offset <= logical.saturating_sub(physical)
+}
+
 pub fn supported(settings: &Settings, region: &Span) -> bool {
     let Settings { physical, logical, offset, depth, order, alpha } = *settings;
     [physical.width, physical.height, logical.width, logical.height]
@@ -86,8 +92,8 @@ pub fn supported(settings: &Settings, region: &Span) -> bool {
         && matches!(depth, 8 | 16 | 24 | 32)
         && order <= 1
         && alpha <= 2
-        && offset.x < logical.width
-        && offset.y < logical.height
+        && in_view(physical.width, logical.width, offset.x)
+        && in_view(physical.height, logical.height, offset.y)
         && need(settings) <= region.size
 }
 
@@ -247,6 +253,25 @@ impl Reply {
             Property::Depth => store(value, &depth.to_le_bytes()),
             Property::Order => store(value, &order.to_le_bytes()),
             Property::Alpha => store(value, &alpha.to_le_bytes()),
+        }
+    }
+}
+
+#[cfg(test)]
+mod tests {
+    use super::in_view;
+
+    #[test]
+    fn any_numbers_on_one_axis() {
+        let numbers = [0, 1, 2, 4_095, 4_096, 4_097, 1 << 31, u32::MAX - 4_095, u32::MAX];
+        let pairs = numbers.map(|physical| numbers.map(|logical| (physical, logical))).concat();
+        for (physical, logical) in pairs {
+            for offset in numbers {
+                let end = u64::from(offset) + u64::from(physical);
+                let inside = physical <= logical && end <= u64::from(logical);
+                let expected = inside || (physical > logical && offset == 0);
+                assert_eq!(in_view(physical, logical, offset), expected);
+            }
         }
     }
 }

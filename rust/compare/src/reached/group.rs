@@ -1,7 +1,7 @@
 //! The cases of the frame buffer group.
 
 use super::{Reached, Thing};
-use crate::boards::need;
+use crate::boards::{last_offset, need};
 use crate::sides::Side;
 use crate::walk::Tag;
 use interface::frame_buffer::{GroupTag, Operation, Refusal, Verdict};
@@ -54,6 +54,7 @@ impl Reached {
         }
         if operation.tests || operation.others {
             self.count_operation(&operation, display);
+            self.count_proposed_offset(&operation, display);
         }
     }
 
@@ -116,8 +117,8 @@ fn unsupported_name(settings: &Settings, display: &Display) -> Option<&'static s
         (!matches!(depth, 8 | 16 | 24 | 32), "refused for the depth"),
         (order > 1, "refused for the pixel order"),
         (alpha > 2, "refused for the alpha mode"),
-        (offset.x >= logical.width, "refused for the x offset"),
-        (offset.y >= logical.height, "refused for the y offset"),
+        (offset.x > last_offset(physical.width, logical.width), "refused for the x offset"),
+        (offset.y > last_offset(physical.height, logical.height), "refused for the y offset"),
     ];
     let mut names = broken.iter().filter(|(broken, _)| *broken).map(|(_, name)| *name);
     match (names.next(), names.next()) {
