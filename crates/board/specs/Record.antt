@@ -5,10 +5,12 @@ use Rattle.words.specs.Every.{every}
 use Rattle.board.specs.Display.{validDisplay}
 use Rattle.board.specs.Facts.{validFacts}
 use Rattle.board.specs.Items.{validDevice, validClock, validVoltage}
+use Rattle.board.specs.Memory.{validMemory}
 use Rattle.board.specs.declared.display.Display.{Display}
 use Rattle.board.specs.declared.items.Clock.{Clock}
 use Rattle.board.specs.declared.items.Device.{Device}
 use Rattle.board.specs.declared.items.Voltage.{Voltage}
+use Rattle.board.specs.declared.memory.Block.{Block}
 use Rattle.board.specs.declared.record.Board.{Board}
 
 -- ---- a record with one part replaced: all others stay
@@ -21,6 +23,8 @@ withDevices b xs = record {
   voltages = b .voltages;
   temperature = b .temperature;
   display = b .display;
+  heap = b .heap;
+  blocks = b .blocks;
 }
 
 abbrev pub withClocks : Board → List Clock → Board
@@ -32,6 +36,8 @@ withClocks b xs = record {
   voltages = b .voltages;
   temperature = b .temperature;
   display = b .display;
+  heap = b .heap;
+  blocks = b .blocks;
 }
 
 abbrev pub withVoltages : Board → List Voltage → Board
@@ -43,6 +49,8 @@ withVoltages b xs = record {
   voltages = xs;
   temperature = b .temperature;
   display = b .display;
+  heap = b .heap;
+  blocks = b .blocks;
 }
 
 abbrev pub withDisplay : Board → Display → Board
@@ -54,6 +62,21 @@ withDisplay b d = record {
   voltages = b .voltages;
   temperature = b .temperature;
   display = d;
+  heap = b .heap;
+  blocks = b .blocks;
+}
+
+abbrev pub withBlocks : Board → List Block → Board
+withBlocks b xs = record {
+  facts = b .facts;
+  line = b .line;
+  devices = b .devices;
+  clocks = b .clocks;
+  voltages = b .voltages;
+  temperature = b .temperature;
+  display = b .display;
+  heap = b .heap;
+  blocks = xs;
 }
 
 -- ---- a valid record: each part is valid, whatever the temperature and the command line's bytes
@@ -64,3 +87,4 @@ valid b =
     && every validClock (b .clocks)
     && every validVoltage (b .voltages)
     && validDisplay (b .display)
+    && validMemory (b .display .region) (b .heap) (b .blocks)

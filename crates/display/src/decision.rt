@@ -45,7 +45,7 @@ fn is_allocatable(d: Display, o: Operation) -> bool
 {
     let region = d.region;
     if one_bit(o.alignment) {
-        let base = lowest_multiple(region.base, o.alignment);
+        let base = lowest_multiple(region.base as u64, o.alignment);
         let size = need(o.proposal);
         return base + size as u64 <= region.base as u64 + region.size as u64;
     }
@@ -85,7 +85,7 @@ fn placed(d: Display, o: Operation) -> Span
 {
     if o.allocates {
         let region = d.region;
-        let base = lowest_multiple(region.base, o.alignment);
+        let base = lowest_multiple(region.base as u64, o.alignment);
         return Span {
             base: base as u32,
             size: need(o.proposal),

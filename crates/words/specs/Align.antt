@@ -1,6 +1,6 @@
 -- Alignments.
 use mathlib.Core.Bool.{Bool}
-use Prim.Native.Nat.{ℕ}
+use Prim.Native.Nat.{ℕ, _%_}
 use lib.Count.{onesIn}
 use lib.Dec.{eqb}
 
@@ -8,3 +8,7 @@ use lib.Dec.{eqb}
 unfoldable pub oneBit : ℕ → Bool
 unfolding onesIn
 oneBit a = eqb (onesIn 32 a) 1
+
+-- an address is a multiple of an alignment
+unfoldable pub aligned : (alignment address : ℕ) → Bool
+aligned alignment address = eqb (address % alignment) 0

@@ -2,15 +2,16 @@
 use mathlib.Core.Bool.{true, false≢true}
 use mathlib.Core.Path.{_≡_, refl, sym, ap, _∙_, subst}
 use Prim.Native.Nat.{ℕ, zero, suc, _+_, _-_, _*_, _/_, _%_, _^_, _≤_, _<_}
-use native.Mathlib.Nat.{suc-mul, le-of-suc-le-suc, div-lt-iff-lt-mul, div-add-mod', mod-lt, div-mul-le-self, mul-le-mul-right, zero-lt-suc}
+use native.Mathlib.Nat.{suc-mul, le-of-suc-le-suc, div-lt-iff-lt-mul, div-add-mod', mod-lt, div-mul-le-self, mul-le-mul-right, zero-lt-suc, mul-mod-left}
 use native.Mathlib.Numerals.{add-one}
 use native.Mathlib.Omega.{arith}
+use borrow.Author.Tests.{eq-eqb, eqb-true}
 use lib.Arith.{lt-one}
 use lib.Count.{onesIn, ones, ones-step}
 use lib.Dec.{eqb}
 use lib.Pow.{shr-lt}
 use Rattle.words.specs.Round.{roundUp}
-use Rattle.words.specs.Align.{oneBit}
+use Rattle.words.specs.Align.{oneBit, aligned}
 
 ones-zero : ones 0 ≡ 0
 unfolding ones
@@ -39,8 +40,16 @@ module _ (a b : ℕ) (p : 0 < a) where
   pub up-below : roundUp a b < b + a
   up-below = omega (arith, div-mul-le-self (b + (a - 1)) a)
 
+  pub up-aligned : aligned a (roundUp a b) ≡ true
+  unfolding aligned
+  up-aligned = eq-eqb _ 0 (mul-mod-left ((b + (a - 1)) / a) a)
+
   -- no lower multiple is at or above b
-  pub up-least : (k : ℕ) → b ≤ k * a → roundUp a b ≤ k * a
-  up-least k h =
+  pub up-least : (x : ℕ) → aligned a x ≡ true → b ≤ x → roundUp a b ≤ x
+  unfolding aligned
+  up-least x e h =
+      let z : x % a ≡ 0 = eqb-true _ 0 e in
+      let k = x / a in
+      let d = div-add-mod' x a in
       let s : b + (a - 1) < suc k * a = omega (arith, suc-mul k a) in
-      mul-le-mul-right a (le-of-suc-le-suc (div-lt-iff-lt-mul p .1 s))
+      omega (arith, mul-le-mul-right a (le-of-suc-le-suc (div-lt-iff-lt-mul p .1 s)))

@@ -5,16 +5,16 @@ use Rattle.words.proofs.align.lowest_multiple.Statement.{statement}
 use Rattle.words.proofs.align.lowest_multiple.Tie as tie
 
 sub-result : tie.Need-sub-result
-sub-result c = one-bit-least _ (c .pre)
+sub-result c = one-bit-least _ (c .pre .0)
 
 add-result : tie.Need-add-result
 add-result c = search needs
 
 div-result : tie.Need-div-result
-div-result c = one-bit-least _ (c .pre)
+div-result c = one-bit-least _ (c .pre .0)
 
 mul-result : tie.Need-mul-result
-mul-result c = omega (arith, up-below (c .args .alignment) (c .args .base) (one-bit-least _ (c .pre)))
+mul-result c = omega (arith, up-below (c .args .alignment) (c .args .address) (one-bit-least _ (c .pre .0)))
 
 returns : tie.Need-returns
 returns c = search needs

@@ -1,0 +1,79 @@
+// GPU memory: the places for blocks of the heap, and runs of memory.
+use crate::facts::Span;
+ghost use mathlib.Core.Path.{_≡_};
+ghost use Prim.Native.Nat.{_+_, _<_};
+ghost use Rattle.board.specs.Memory.{inside, apart, noBlock, bytesOf, clearOf};
+
+// A block, where the place is taken. Where it is free the rest says nothing.
+#[repr(C)]
+pub struct Block {
+    pub taken: bool,
+    pub locked: bool,
+    pub base: u32,
+    pub size: u32,
+    pub alignment: u32,
+    pub flags: u32,
+}
+
+// A place that is free.
+pub fn no_block() -> Block
+    ensures { λ r. ⌜ r ≡ noBlock ⌝ }
+{
+    Block {
+        taken: false,
+        locked: false,
+        base: 0,
+        size: 0,
+        alignment: 0,
+        flags: 0,
+    }
+}
+
+// The place behind a run of memory.
+pub fn end(s: Span) -> u64
+    ensures { λ r. ⌜ (r ≡ s .base + s .size) × (r < 0x2_0000_0000) ⌝ }
+{
+    s.base as u64 + s.size as u64
+}
+
+pub fn is_inside(outer: Span, inner: Span) -> bool
+    ensures { λ r. ⌜ r ≡ inside outer inner ⌝ }
+{
+    outer.base <= inner.base && end(inner) <= end(outer)
+}
+
+// Whether two runs of memory share no byte.
+pub fn are_apart(s: Span, t: Span) -> bool
+    ensures { λ r. ⌜ r ≡ apart s t ⌝ }
+{
+    if s.size == 0 {
+        return true;
+    }
+    if t.size == 0 {
+        return true;
+    }
+    if end(s) <= t.base as u64 {
+        return true;
+    }
+    end(t) <= s.base as u64
+}
+
+// The bytes of a block.
+pub fn bytes_of(b: Block) -> Span
+    ensures { λ r. ⌜ r ≡ bytesOf b ⌝ }
+{
+    Span {
+        base: b.base,
+        size: b.size,
+    }
+}
+
+// Whether a run of memory has no byte of the block at a place.
+pub fn is_clear_of(s: Span, b: Block) -> bool
+    ensures { λ r. ⌜ r ≡ clearOf s b ⌝ }
+{
+    if b.taken {
+        return are_apart(s, bytes_of(b));
+    }
+    true
+}
