@@ -2,7 +2,7 @@
 use crate::facts::Span;
 ghost use mathlib.Core.Path.{_≡_};
 ghost use Prim.Native.Nat.{_+_, _<_};
-ghost use Rattle.board.specs.Memory.{inside, apart, noBlock, bytesOf, clearOf};
+ghost use Rattle.board.specs.Memory.{span, inside, apart, noBlock, bytesOf, clearOf};
 
 // A block, where the place is taken. Where it is free the rest says nothing.
 #[repr(C)]
@@ -42,20 +42,21 @@ pub fn is_inside(outer: Span, inner: Span) -> bool
     outer.base <= inner.base && end(inner) <= end(outer)
 }
 
-// Whether two runs of memory share no byte.
-pub fn are_apart(s: Span, t: Span) -> bool
-    ensures { λ r. ⌜ r ≡ apart s t ⌝ }
+// Whether two runs of memory share no byte; the first may begin behind 2^32.
+pub fn are_apart(base: u64, size: u32, t: Span) -> bool
+    requires { ⌜ base < 0x10_0000_0000 ⌝ }
+    ensures { λ r. ⌜ r ≡ apart (span base size) t ⌝ }
 {
-    if s.size == 0 {
+    if size == 0 {
         return true;
     }
     if t.size == 0 {
         return true;
     }
-    if end(s) <= t.base as u64 {
+    if base + size as u64 <= t.base as u64 {
         return true;
     }
-    end(t) <= s.base as u64
+    end(t) <= base
 }
 
 // The bytes of a block.
@@ -69,11 +70,12 @@ pub fn bytes_of(b: Block) -> Span
 }
 
 // Whether a run of memory has no byte of the block at a place.
-pub fn is_clear_of(s: Span, b: Block) -> bool
-    ensures { λ r. ⌜ r ≡ clearOf s b ⌝ }
+pub fn is_clear_of(base: u64, size: u32, b: Block) -> bool
+    requires { ⌜ base < 0x10_0000_0000 ⌝ }
+    ensures { λ r. ⌜ r ≡ clearOf (span base size) b ⌝ }
 {
     if b.taken {
-        return are_apart(s, bytes_of(b));
+        return are_apart(base, size, bytes_of(b));
     }
     true
 }

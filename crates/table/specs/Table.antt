@@ -6,6 +6,7 @@ use lib.Dec.{eqb}
 use Rattle.table.specs.declared.kinds.ClockTag.{ClockTag}
 use Rattle.table.specs.declared.kinds.FactTag.{FactTag}
 use Rattle.table.specs.declared.kinds.FrameTag.{FrameTag}
+use Rattle.table.specs.declared.kinds.HandleTag.{HandleTag}
 use Rattle.table.specs.declared.kinds.Kind.{Kind}
 use Rattle.table.specs.declared.kinds.OutsideTag.{OutsideTag}
 use Rattle.table.specs.declared.kinds.PowerTag.{PowerTag}
@@ -40,6 +41,9 @@ voltageKind t = Kind.Outside (OutsideTag.Voltage t)
 abbrev pub temperatureKind : TemperatureTag → Kind
 temperatureKind t = Kind.Outside (OutsideTag.Temperature t)
 
+abbrev pub handleKind : HandleTag → Kind
+handleKind t = Kind.Outside (OutsideTag.Handle t)
+
 -- The command line's answer has its own length, 256 at most.
 unfoldable pub outsideTags : List Entry
 outsideTags =
@@ -72,6 +76,11 @@ outsideTags =
     -- temperature
     ∷ entry 0x0003_0006 4 8 (temperatureKind TemperatureTag.Current)
     ∷ entry 0x0003_000a 4 8 (temperatureKind TemperatureTag.Max)
+    -- GPU memory
+    ∷ entry 0x0003_000c 12 4 (Kind.Outside OutsideTag.Allocate)
+    ∷ entry 0x0003_000d 4 4 (handleKind HandleTag.Lock)
+    ∷ entry 0x0003_000e 4 4 (handleKind HandleTag.Unlock)
+    ∷ entry 0x0003_000f 4 4 (handleKind HandleTag.Release)
     ∷ []
 
 -- the frame buffer group: get, test and set of each setting, then pitch, allocate, release

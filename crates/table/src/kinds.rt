@@ -38,6 +38,13 @@ pub enum TemperatureTag {
     Max,
 }
 
+// What a tag asks of the block of a handle.
+pub enum HandleTag {
+    Lock,
+    Unlock,
+    Release,
+}
+
 pub enum Setting {
     Physical,
     Virtual,
@@ -57,13 +64,16 @@ pub enum FrameTag {
     Release,
 }
 
-// What a known tag outside the frame buffer group asks, by family.
+// What a known tag outside the frame buffer group asks, by family; `Allocate` and `Handle` are those of GPU
+// memory.
 pub enum OutsideTag {
     Fact(FactTag),
     Power(PowerTag),
     Clock(ClockTag),
     Voltage(VoltageTag),
     Temperature(TemperatureTag),
+    Allocate,
+    Handle(HandleTag),
 }
 
 // What a known tag asks: of the frame buffer group, or outside it.

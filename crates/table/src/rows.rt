@@ -2,6 +2,7 @@
 use crate::kinds::ClockTag;
 use crate::kinds::FactTag;
 use crate::kinds::FrameTag;
+use crate::kinds::HandleTag;
 use crate::kinds::Kind;
 use crate::kinds::OutsideTag;
 use crate::kinds::PowerTag;
@@ -52,6 +53,10 @@ pub fn row_of(id: u32) -> Row
             Kind::Outside(OutsideTag::Temperature(TemperatureTag::Max)),
             4,
         ),
+        0x0003_000c => Row::Known(Kind::Outside(OutsideTag::Allocate), 12),
+        0x0003_000d => Row::Known(Kind::Outside(OutsideTag::Handle(HandleTag::Lock)), 4),
+        0x0003_000e => Row::Known(Kind::Outside(OutsideTag::Handle(HandleTag::Unlock)), 4),
+        0x0003_000f => Row::Known(Kind::Outside(OutsideTag::Handle(HandleTag::Release)), 4),
         0x0004_0003 => Row::Known(Kind::Group(FrameTag::Get(Setting::Physical)), 0),
         0x0004_4003 => Row::Known(Kind::Group(FrameTag::Test(Setting::Physical)), 8),
         0x0004_8003 => Row::Known(Kind::Group(FrameTag::Set(Setting::Physical)), 8),

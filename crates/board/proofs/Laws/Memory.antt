@@ -12,7 +12,7 @@ use lib.ListN.{length, getD, set, List·getD-eq-default}
 use Rattle.words.proofs.Laws.Every.{every-set, pairs-set}
 use Rattle.words.specs.Align.{oneBit, aligned}
 use Rattle.words.specs.Every.{every, pairs}
-use Rattle.board.specs.Memory.{inside, apart, noBlock, bytesOf, clearOf, validHeap, validBlock, disjoint, validMemory}
+use Rattle.board.specs.Memory.{span, inside, apart, noBlock, bytesOf, clearOf, validHeap, validBlock, disjoint, validMemory}
 use Rattle.board.specs.declared.facts.Span.{Span}
 use Rattle.board.specs.declared.memory.Block.{Block}
 
@@ -43,25 +43,6 @@ module _ (s t : Span) where
   pub apart-swap : apart s t ≡ apart t s
   unfolding apart
   apart-swap = or-swap (eqb (s .size) 0) (eqb (t .size) 0) (leb (s .base + s .size) (t .base)) (leb (t .base + t .size) (s .base))
-
-  -- as the code tests it
-  pub apart-first : s .size ≡ 0 → true ≡ apart s t
-  unfolding apart
-  apart-first z = rw (eq-eqb (s .size) 0 z)
-
-  module _ (n : s .size ≡ 0 → ⊥) where
-    pub apart-second : t .size ≡ 0 → true ≡ apart s t
-    unfolding apart
-    apart-second z = rw (ne-eqb (s .size) 0 n, eq-eqb (t .size) 0 z)
-
-    module _ (n′ : t .size ≡ 0 → ⊥) {e : ℕ} (ee : e ≡ s .base + s .size) where
-      pub apart-before : e ≤ t .base → true ≡ apart s t
-      unfolding apart
-      apart-before l = let k : s .base + s .size ≤ t .base = omega arith in rw (ne-eqb (s .size) 0 n, ne-eqb (t .size) 0 n′, le-leb _ _ k)
-
-      pub apart-rest : t .base < e → {f : ℕ} → f ≡ t .base + t .size → leb f (s .base) ≡ apart s t
-      unfolding apart
-      apart-rest l ef = let k : t .base < s .base + s .size = omega arith in rw (ef, ne-eqb (s .size) 0 n, ne-eqb (t .size) 0 n′, lt-leb _ _ k)
 
   -- two that do not meet are apart
   pub meets-not : (Meets s t → ⊥) → apart s t ≡ true
@@ -110,6 +91,26 @@ module _ (s t : Span) where
       go : Meets s t → Dec (s .base ≤ t .base) → ⊥
       go m (yes l) = let k = m .behind in let q = m .filled′ in h (t .base) (l, k) (omega arith, omega arith)
       go m (no l) = let k = m .before in let q = m .filled in h (s .base) (omega arith, omega arith) (omega arith, k)
+
+-- ---- two runs, as the code tests them
+module _ (base size : ℕ) (t : Span) where
+  pub apart-first : size ≡ 0 → true ≡ apart (span base size) t
+  unfolding apart
+  apart-first z = rw (eq-eqb size 0 z)
+
+  module _ (n : size ≡ 0 → ⊥) where
+    pub apart-second : t .size ≡ 0 → true ≡ apart (span base size) t
+    unfolding apart
+    apart-second z = rw (ne-eqb size 0 n, eq-eqb (t .size) 0 z)
+
+    module _ (n′ : t .size ≡ 0 → ⊥) where
+      pub apart-before : base + size ≤ t .base → true ≡ apart (span base size) t
+      unfolding apart
+      apart-before l = rw (ne-eqb size 0 n, ne-eqb (t .size) 0 n′, le-leb _ _ l)
+
+      pub apart-rest : t .base < base + size → {e : ℕ} → e ≡ t .base + t .size → leb e base ≡ apart (span base size) t
+      unfolding apart
+      apart-rest l ee = rw (ee, ne-eqb size 0 n, ne-eqb (t .size) 0 n′, lt-leb _ _ l)
 
 -- ---- a block, as the code tests it
 module _ (heap : Span) (b : Block) where

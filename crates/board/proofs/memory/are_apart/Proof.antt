@@ -16,4 +16,4 @@ returns-4 : tie.Need-returns-4
 returns-4 c = search apart-rest
 
 pub are-apart-spec : {M : Type 1} → statement M
-are-apart-spec = tie.close (tie.spec returns returns-2 (search needs) (search needs) returns-3 (search needs) (search needs) returns-4)
+are-apart-spec = tie.close (tie.spec returns returns-2 (search needs) (search needs) returns-3 (search needs) returns-4)

@@ -5,7 +5,7 @@ use Rattle.board.proofs.valid.are_disjoint.Tie as tie
 
 returns : tie.Need-returns
 unfolding disjoint
-returns c = rw (c .before .before .if1 .taken, ← (c .before .bytes-of .ensures)) (c .is-clear-of .ensures)
+returns c = rw (c .before .before .if1 .taken) (c .is-clear-of .ensures)
 
 returns-2 : tie.Need-returns-2
 unfolding disjoint

@@ -55,4 +55,8 @@ row-of-spec =
     (λ c. sym (ap rowOf (c .match .keys43)))
     (λ c. sym (ap rowOf (c .match .keys44)))
     (λ c. sym (ap rowOf (c .match .keys45)))
+    (λ c. sym (ap rowOf (c .match .keys46)))
+    (λ c. sym (ap rowOf (c .match .keys47)))
+    (λ c. sym (ap rowOf (c .match .keys48)))
+    (λ c. sym (ap rowOf (c .match .keys49)))
     (λ c. sym (unknown (Unit {0}) table _ (c .match .rest) .0)))
