@@ -6,3 +6,4 @@ pub mod AnswerFits
 pub mod Offsets
 pub mod Places
 pub mod ServesOutside
+pub mod Memory

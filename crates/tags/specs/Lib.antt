@@ -5,5 +5,7 @@ pub mod Power
 pub mod Clock
 pub mod Voltage
 pub mod Temperature
+pub mod Memory
+pub mod Raised
 pub mod Outside
 pub mod Named

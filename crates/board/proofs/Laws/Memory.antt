@@ -209,10 +209,10 @@ module _ (region heap : Span) (blocks : List Block) where
       record { placed = e0 .0; beside = e0 .1; each = e1 .1; each-two = e2 .1 }
 
   -- a place is filled anew, by a block that is valid and disjoint from those at the other places
-  pub memory-set : validMemory region heap blocks ≡ true → (i : ℕ) → i < length blocks → (b : Block) → validBlock heap b ≡ true
+  pub memory-set : validMemory region heap blocks ≡ true → (i : ℕ) (b : Block) → validBlock heap b ≡ true
       → ((j : ℕ) → (j ≡ i → ⊥) → disjoint b (getD blocks j noBlock) ≡ true) → validMemory region heap (set blocks i b) ≡ true
   unfolding validMemory
-  memory-set e i l b v h =
+  memory-set e i b v h =
       let p = memory-parts e in
       rw (p .placed, p .beside, every-set (validBlock heap) blocks i b v (p .each))
-      (pairs-set disjoint disjoint-swap noBlock disjoint-none blocks i b l h (p .each-two))
+      (pairs-set disjoint disjoint-swap noBlock disjoint-none blocks i b h (p .each-two))

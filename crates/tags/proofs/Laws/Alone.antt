@@ -2,18 +2,22 @@
 use mathlib.Core.List.{List}
 use mathlib.Core.Path.{_≡_, refl, ap}
 use Prim.Native.Nat.{ℕ}
-use Rattle.board.specs.Record.{withDevices, withClocks, withVoltages, withDisplay}
+use Rattle.board.specs.Record.{withDevices, withClocks, withVoltages, withDisplay, withBlocks}
 use Rattle.board.specs.declared.display.Display.{Display}
 use Rattle.board.specs.declared.facts.Facts.{Facts}
+use Rattle.board.specs.declared.facts.Span.{Span}
+use Rattle.board.specs.declared.memory.Block.{Block}
 use Rattle.board.specs.declared.record.Board.{Board}
 use Rattle.table.specs.declared.kinds.ClockTag.{ClockTag}
 use Rattle.table.specs.declared.kinds.FactTag.{FactTag}
+use Rattle.table.specs.declared.kinds.HandleTag.{HandleTag}
 use Rattle.table.specs.declared.kinds.OutsideTag.{OutsideTag}
 use Rattle.table.specs.declared.kinds.PowerTag.{PowerTag}
 use Rattle.table.specs.declared.kinds.TemperatureTag.{TemperatureTag}
 use Rattle.table.specs.declared.kinds.VoltageTag.{VoltageTag}
 use Rattle.tags.specs.Clock.{clockAnswer, clocksAfter}
 use Rattle.tags.specs.Fact.{factAnswer}
+use Rattle.tags.specs.Memory.{allocateAnswer, allocateAfter, handleAnswer, blocksAfter}
 use Rattle.tags.specs.Outside.{outsideAnswer, outsideAfter}
 use Rattle.tags.specs.Power.{powerAnswer, devicesAfter}
 use Rattle.tags.specs.Temperature.{temperatureAnswer}
@@ -66,6 +70,23 @@ temperature-alone t request = record {
   rest-same = λ b. refl;
 }
 
+pub allocate-alone : (request : List ℕ)
+    → Alone {P = Span × List Block} (λ b. (b .heap, b .blocks)) (λ b p. withBlocks b (p .1)) OutsideTag.Allocate request
+unfolding outsideAnswer outsideAfter
+allocate-alone request = record {
+  answer-same = λ b b′ e. ap (λ (p : Span × List Block). allocateAnswer request (p .0) (p .1)) e;
+  part-same = λ b b′ e. ap (λ (p : Span × List Block). (p .0, allocateAfter request (p .0) (p .1))) e;
+  rest-same = λ b. refl;
+}
+
+pub handle-alone : (t : HandleTag) (request : List ℕ) → Alone (λ b. b .blocks) withBlocks (OutsideTag.Handle t) request
+unfolding outsideAnswer outsideAfter
+handle-alone t request = record {
+  answer-same = λ b b′ e. ap (handleAnswer t request) e;
+  part-same = λ b b′ e. ap (blocksAfter t request) e;
+  rest-same = λ b. refl;
+}
+
 -- none of them reads or changes the display
 module _ (d : Display) (request : List ℕ) (b : Board) where
   pub answer-beside : (k : OutsideTag) → outsideAnswer k request (withDisplay b d) ≡ outsideAnswer k request b
@@ -75,6 +96,8 @@ module _ (d : Display) (request : List ℕ) (b : Board) where
   answer-beside (OutsideTag.Clock t) = refl
   answer-beside (OutsideTag.Voltage t) = refl
   answer-beside (OutsideTag.Temperature t) = refl
+  answer-beside OutsideTag.Allocate = refl
+  answer-beside (OutsideTag.Handle t) = refl
 
   pub after-beside : (k : OutsideTag) → outsideAfter k request (withDisplay b d) ≡ withDisplay (outsideAfter k request b) d
   unfolding outsideAfter
@@ -83,6 +106,8 @@ module _ (d : Display) (request : List ℕ) (b : Board) where
   after-beside (OutsideTag.Clock t) = refl
   after-beside (OutsideTag.Voltage t) = refl
   after-beside (OutsideTag.Temperature t) = refl
+  after-beside OutsideTag.Allocate = refl
+  after-beside (OutsideTag.Handle t) = refl
 
 -- none of them changes the facts or the command line
 pub after-facts : (k : OutsideTag) (request : List ℕ) (b : Board)
@@ -93,3 +118,16 @@ after-facts (OutsideTag.Power t) request b = (refl, refl)
 after-facts (OutsideTag.Clock t) request b = (refl, refl)
 after-facts (OutsideTag.Voltage t) request b = (refl, refl)
 after-facts (OutsideTag.Temperature t) request b = (refl, refl)
+after-facts OutsideTag.Allocate request b = (refl, refl)
+after-facts (OutsideTag.Handle t) request b = (refl, refl)
+
+-- nor the heap
+pub after-heap : (k : OutsideTag) (request : List ℕ) (b : Board) → outsideAfter k request b .heap ≡ b .heap
+unfolding outsideAfter
+after-heap (OutsideTag.Fact t) request b = refl
+after-heap (OutsideTag.Power t) request b = refl
+after-heap (OutsideTag.Clock t) request b = refl
+after-heap (OutsideTag.Voltage t) request b = refl
+after-heap (OutsideTag.Temperature t) request b = refl
+after-heap OutsideTag.Allocate request b = refl
+after-heap (OutsideTag.Handle t) request b = refl

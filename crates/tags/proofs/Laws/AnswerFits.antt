@@ -30,3 +30,5 @@ outside-fits (OutsideTag.Power t) request b = omega arith
 outside-fits (OutsideTag.Clock t) request b = omega arith
 outside-fits (OutsideTag.Voltage t) request b = omega arith
 outside-fits (OutsideTag.Temperature t) request b = omega arith
+outside-fits OutsideTag.Allocate request b = omega arith
+outside-fits (OutsideTag.Handle t) request b = omega arith

@@ -18,7 +18,12 @@ module _ (f : Facts) (line : List ℕ) {whole bytes : List ℕ} (ew : whole ≡ 
   unfolding factAnswer
   line-is = eb ∙ ap (take (f .characters)) ew
 
+-- an answer by the tag, where the arm of a match knows the tag
+pub put-by : {T : Type 0} (answer : T → List ℕ) (at size : ℕ) (m : List ℕ) {t : T} (x : T) → t ≡ x → {bytes : List ℕ} → bytes ≡ answer x
+    → {m′ : List ℕ} → m′ ≡ answered at size bytes m → m′ ≡ answered at size (answer t) m
+put-by {T} answer at size m x e eb p =
+    p ∙ ap (λ (b : List ℕ). answered at size b m) eb ∙ ap (λ (y : T). answered at size (answer y) m) (sym e)
+
 pub fact-put : (at size : ℕ) (f : Facts) (line m : List ℕ) {t : FactTag} (x : FactTag) → t ≡ x → {bytes : List ℕ} → bytes ≡ factAnswer x f line
     → {m′ : List ℕ} → m′ ≡ answered at size bytes m → m′ ≡ answered at size (factAnswer t f line) m
-fact-put at size f line m x e eb p =
-    p ∙ ap (λ (b : List ℕ). answered at size b m) eb ∙ ap (λ (y : FactTag). answered at size (factAnswer y f line) m) (sym e)
+fact-put at size f line m = put-by (λ t. factAnswer t f line) at size m

@@ -2,16 +2,20 @@
 use mathlib.Core.Bool.{true≢false}
 use mathlib.Core.List.{List}
 use mathlib.Core.Path.{_≡_, refl, sym, ap, _∙_}
-use Prim.Native.Nat.{ℕ, _<_}
+use Prim.Native.Nat.{ℕ, _-_, _<_}
 use lib.ListN.{getD, set}
+use Rattle.words.specs.Numbers.{le, nthWord}
 use Rattle.board.specs.Items.{noDevice, noClock, noVoltage}
-use Rattle.board.specs.Record.{withDevices, withClocks, withVoltages}
+use Rattle.board.specs.Memory.{noBlock}
+use Rattle.board.specs.Record.{withDevices, withClocks, withVoltages, withBlocks}
 use Rattle.board.specs.declared.items.Clock.{Clock}
 use Rattle.board.specs.declared.items.Device.{Device}
 use Rattle.board.specs.declared.items.Voltage.{Voltage}
+use Rattle.board.specs.declared.memory.Block.{Block}
 use Rattle.board.specs.declared.record.Board.{Board}
 use Rattle.table.specs.declared.kinds.ClockTag.{ClockTag}
 use Rattle.table.specs.declared.kinds.FactTag.{FactTag}
+use Rattle.table.specs.declared.kinds.HandleTag.{HandleTag}
 use Rattle.table.specs.declared.kinds.OutsideTag.{OutsideTag}
 use Rattle.table.specs.declared.kinds.PowerTag.{PowerTag}
 use Rattle.table.specs.declared.kinds.TemperatureTag.{TemperatureTag}
@@ -20,12 +24,14 @@ use Rattle.answers.specs.Answer.{twoWords}
 use Rattle.tags.proofs.Laws.Items.{power-absent, clock-absent, voltage-absent}
 use Rattle.tags.specs.Clock.{clockAfter, clockValue}
 use Rattle.tags.specs.Fact.{factAnswer}
-use Rattle.tags.specs.Named.{itemPlace, itemCount, Named, absentValue}
+use Rattle.tags.specs.Memory.{allocation, allocationOf, handleAfter, handleValue}
+use Rattle.tags.specs.Named.{itemPlace, itemCount, Named, absentAnswer}
 use Rattle.tags.specs.Outside.{outsideAnswer, outsideAfter}
 use Rattle.tags.specs.Place.{idOf, newValue}
 use Rattle.tags.specs.Power.{powerAfter, powerValue}
 use Rattle.tags.specs.Temperature.{temperatureValue}
 use Rattle.tags.specs.Voltage.{voltageAfter, voltageValue}
+use Rattle.tags.specs.declared.memory.Allocation.{Allocation}
 use Rattle.tags.specs.declared.place.Place.{Place}
 
 -- the tag says this answer and leaves the record b′
@@ -45,23 +51,39 @@ serves-fact request b ek = rw ek (record { says = refl; left = refl })
 
 -- with the id and what a set asks for, as they were read from the request
 module _ (request : List ℕ) (b : Board) {a x : ℕ} (ea : a ≡ idOf request) (ex : x ≡ newValue request) where
-  -- an id that is not listed: the answer of an absent item, and nothing changes
-  pub serves-unlisted : (k : OutsideTag) {r : Place} → Named k a r → r ≡ Place.Unlisted → {n : ℕ} → n ≡ absentValue k → Serves k request b (twoWords a n) b
+  -- an id that is not listed: the answer of an absent item or of an unknown handle, and nothing changes
+  pub serves-unlisted : (k : OutsideTag) {r : Place} → Named k a r → r ≡ Place.Unlisted → Serves k request b (absentAnswer k a) b
   unfolding outsideAnswer outsideAfter
-  serves-unlisted (OutsideTag.Fact t) p e en = absurd (true≢false cc)
-  serves-unlisted (OutsideTag.Power t) p e en =
-      record { says = rw (← ea, ← ex, ← (p .is), e, power-absent t x noDevice refl, ← en); left = rw (← ea, ← (p .is), e) }
-  serves-unlisted (OutsideTag.Clock t) p e en =
-      record { says = rw (← ea, ← ex, ← (p .is), e, clock-absent t x noClock refl, ← en); left = rw (← ea, ← (p .is), e) }
-  serves-unlisted (OutsideTag.Voltage t) p e en =
-      record { says = rw (← ea, ← ex, ← (p .is), e, voltage-absent t x noVoltage refl, ← en); left = rw (← ea, ← (p .is), e) }
-  serves-unlisted (OutsideTag.Temperature t) p e en = absurd (true≢false cc)
+  serves-unlisted (OutsideTag.Fact t) p e = absurd (true≢false cc)
+  serves-unlisted (OutsideTag.Power t) p e =
+      record { says = rw (← ea, ← ex, ← (p .is), e, power-absent t x noDevice refl); left = rw (← ea, ← (p .is), e) }
+  serves-unlisted (OutsideTag.Clock t) p e =
+      record { says = rw (← ea, ← ex, ← (p .is), e, clock-absent t x noClock refl); left = rw (← ea, ← (p .is), e) }
+  serves-unlisted (OutsideTag.Voltage t) p e =
+      record { says = rw (← ea, ← ex, ← (p .is), e, voltage-absent t x noVoltage refl); left = rw (← ea, ← (p .is), e) }
+  serves-unlisted (OutsideTag.Temperature t) p e = absurd (true≢false cc)
+  serves-unlisted OutsideTag.Allocate p e = absurd (true≢false cc)
+  serves-unlisted (OutsideTag.Handle t) p e = record { says = rw (← ea, ← (p .is), e); left = rw (← ea, ← (p .is), e) }
 
   module _ {k : OutsideTag} where
     pub serves-temperature : {t : TemperatureTag} → k ≡ OutsideTag.Temperature t → {n : ℕ} → n ≡ temperatureValue t a (b .temperature)
         → Serves k request b (twoWords a n) b
     unfolding outsideAnswer outsideAfter
     serves-temperature ek e = rw ek (record { says = rw (e, ea); left = refl })
+
+    -- an allocate, with its third word
+    module _ (ek : k ≡ OutsideTag.Allocate) {f : ℕ} (ef : f ≡ nthWord request 2) {g : Allocation} (eg : g ≡ allocation (b .heap) (b .blocks) a x f) where
+      came-to : g ≡ allocationOf request (b .heap) (b .blocks)
+      came-to = rw (eg, ea, ex, ef)
+
+      pub serves-refused : g ≡ Allocation.Refused → Serves k request b (le 4 0) b
+      unfolding outsideAnswer outsideAfter
+      serves-refused e = rw ek (record { says = rw (← came-to, e); left = rw (← came-to, e) })
+
+      pub serves-granted : {handle : ℕ} {c : Block} → g ≡ Allocation.Granted handle c → {i : ℕ} → i ≡ handle - 1
+          → Serves k request b (le 4 handle) (withBlocks b (set (b .blocks) i c))
+      unfolding outsideAnswer outsideAfter
+      serves-granted e ei = rw ek (record { says = rw (← came-to, e); left = rw (← came-to, e, ei) })
 
     -- the item at the place
     module _ {r : Place} (p : Named k a r) {i : ℕ} (e : r ≡ Place.At i) where
@@ -90,3 +112,11 @@ module _ (request : List ℕ) (b : Board) {a x : ℕ} (ea : a ≡ idOf request) 
       serves-voltage {t} ek ev en =
           let q = placed (OutsideTag.Voltage t) ek in
           rw ek (record { says = rw (← ea, ← ex, q, ← ev, ← en); left = rw (← ea, ← ex, q, ← ev) })
+
+      pub serves-handle : {t : HandleTag} → k ≡ OutsideTag.Handle t → {c : Block} → c ≡ getD (b .blocks) i noBlock → {c′ : Block} → c′ ≡ handleAfter t c
+          → {n : ℕ} → n ≡ handleValue t c
+          → Serves k request b (le 4 n) (withBlocks b (set (b .blocks) i c′))
+      unfolding outsideAnswer outsideAfter
+      serves-handle {t} ek ec eb en =
+          let q = placed (OutsideTag.Handle t) ek in
+          rw ek (record { says = rw (← ea, q, ← ec, ← en); left = rw (← ea, q, ← ec, ← eb) })

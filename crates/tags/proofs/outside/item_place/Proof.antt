@@ -16,9 +16,11 @@ item-place-spec =
     tie.close
     (tie.spec
     (λ c. search needs) (λ c. search needs) (λ c κs. search needs) (λ c. search needs) (λ c κs. search needs) (λ c. search needs)
-    (λ c κs. search needs) (λ c. search needs)
+    (λ c κs. search needs) (λ c. search needs) (λ c. search needs) (λ c. search needs) (λ c κs. search needs)
     (λ c. of-tag (c .enum-told .given .1) (record { is = refl; within = omega arith }))
     (λ c. let p = c .device-place .ensures in of-tag (c .before .enum-told2 .given .1) (record { is = p .is; within = p .within }))
     (λ c. let p = c .clock-place .ensures in of-tag (c .before .enum-told3 .given .1) (record { is = p .is; within = p .within }))
     (λ c. let p = c .voltage-place .ensures in of-tag (c .before .enum-told4 .given .1) (record { is = p .is; within = p .within }))
-    (λ c. of-tag (c .enum-told5 .given .1) (record { is = refl; within = omega arith })))
+    (λ c. of-tag (c .enum-told5 .given .1) (record { is = refl; within = omega arith }))
+    (λ c. of-tag (c .enum-told6 .given .1) (record { is = refl; within = omega arith }))
+    (λ c. let p = c .block-place .ensures in of-tag (c .before .enum-told7 .given .1) (record { is = p .is; within = p .within })))
