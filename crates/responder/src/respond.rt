@@ -21,6 +21,7 @@ ghost use Rattle.message.specs.Outcomes.{done};
 ghost use Rattle.message.specs.Sizes.{header};
 ghost use Rattle.message.specs.Helpers.{Walking};
 ghost use Rattle.board.specs.Display.{validDisplay};
+ghost use Rattle.board.specs.Memory.{validHeap};
 ghost use Rattle.board.specs.Record.{valid};
 ghost use Rattle.responder.specs.Answers.{groupBy};
 ghost use Rattle.responder.specs.Reply.{codeOf, served, reply};
@@ -57,7 +58,7 @@ fn group_of(d: Display, outcome: u32, o: Operation) -> Decision
 // Answers the group's tags in a second walk, where the decision says so. The others carry bit 31 by
 // then and are passed over.
 fn answer_group(board: Board, msg: &mut [u8], size: usize, group: Decision)
-    requires { ⌜ Walking (now msg) size header ⌝ }
+    requires { ⌜ (Walking (now msg) size header) × (validHeap (board .heap) ≡ true) ⌝ }
     ensures { λ _. ⌜ now (msg .exit) ≡ groupServed group board (now (msg .entry)) size ⌝ }
 {
     if group.answered {

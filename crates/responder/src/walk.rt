@@ -1,6 +1,7 @@
 // The walk over a message that serves its tags. The record is the loop's own variable, and only one
 // item of it goes through a call.
 use answers::writing::put_pair;
+use answers::writing::put_word;
 use board::record::Board;
 use display::answer::put_group;
 use display::decision::Decision;
@@ -19,8 +20,12 @@ use table::kinds::OutsideTag;
 use tags::clock::clock_after;
 use tags::clock::clock_value;
 use tags::fact::put_fact;
-use tags::outside::absent_value;
+use tags::memory::Allocation;
+use tags::memory::allocate;
+use tags::memory::handle_after;
+use tags::memory::handle_value;
 use tags::outside::item_place;
+use tags::outside::put_absent;
 use tags::place::Place;
 use tags::power::power_after;
 use tags::power::power_value;
@@ -28,11 +33,13 @@ use tags::temperature::temperature_value;
 use tags::voltage::voltage_after;
 use tags::voltage::voltage_value;
 use words::numbers::nth_word;
+ghost use mathlib.Core.Bool.{true};
 ghost use mathlib.Core.Path.{_≡_};
 ghost use Rattle.message.specs.Builder.{leaves};
 ghost use Rattle.message.specs.Outcomes.{shortRequest};
 ghost use Rattle.message.specs.Sizes.{header};
 ghost use Rattle.message.specs.Helpers.{Walking};
+ghost use Rattle.board.specs.Memory.{validHeap};
 ghost use Rattle.responder.specs.Serve.{tagsServed};
 
 // How a walk ended, the operation that the group's tags come to, and the record that it left.
@@ -65,9 +72,9 @@ fn short_at(p: usize) -> Ending
 
 // Serves the tags of a message of `size` bytes in order, up to its end or its first fault. Tags outside
 // the group are served on the record; those of the group are noted, and answered where the decision
-// says so. No entry point: the message has been opened.
+// says so. No entry point: the message has been opened, and the heap is valid.
 pub fn serve_tags(board: Board, msg: &mut [u8], size: usize, group: Decision) -> TagsServed
-    requires { ⌜ Walking (now msg) size header ⌝ }
+    requires { ⌜ (Walking (now msg) size header) × (validHeap (board .heap) ≡ true) ⌝ }
     ensures { λ r. ⌜ leaves (now (msg .exit)) r ≡ tagsServed group board (now (msg .entry)) size ⌝ }
 {
     let mut b = board;
@@ -98,7 +105,7 @@ pub fn serve_tags(board: Board, msg: &mut [u8], size: usize, group: Decision) ->
                 let place = item_place(outside, id);
                 let Place::At(i) = place else {
                     // No item has this id: the answer of an absent one, and nothing changes.
-                    put_pair(msg, tag.at, tag.size, id, absent_value(outside));
+                    put_absent(msg, tag.at, tag.size, outside, id);
                     p = next;
                     continue;
                 };
@@ -124,6 +131,23 @@ pub fn serve_tags(board: Board, msg: &mut [u8], size: usize, group: Decision) ->
                     OutsideTag::Temperature(temperature) => {
                         let n = temperature_value(b.temperature, temperature, id);
                         put_pair(msg, tag.at, tag.size, id, n);
+                    }
+                    OutsideTag::Allocate => {
+                        let blocks = b.blocks;
+                        let allocation = allocate(b.heap, blocks, id, x, nth_word(request, 2));
+                        let Allocation::Granted(handle, block) = allocation else {
+                            put_word(msg, tag.at, tag.size, 0);
+                            p = next;
+                            continue;
+                        };
+                        let j = (handle - 1) as usize;
+                        b.blocks[j] = block;
+                        put_word(msg, tag.at, tag.size, handle);
+                    }
+                    OutsideTag::Handle(kind) => {
+                        let block = b.blocks[i];
+                        b.blocks[i] = handle_after(block, kind);
+                        put_word(msg, tag.at, tag.size, handle_value(block, kind));
                     }
                 }
             }

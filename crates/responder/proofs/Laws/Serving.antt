@@ -18,11 +18,13 @@ use Rattle.message.specs.Walk.{step, endingOf}
 use Rattle.message.specs.declared.walk.Ending.{Ending}
 use Rattle.message.specs.declared.walk.Step.{Step}
 use Rattle.message.specs.declared.walk.Tag.{Tag}
+use Rattle.board.specs.Memory.{validHeap}
 use Rattle.board.specs.declared.record.Board.{Board}
 use Rattle.table.specs.declared.kinds.FrameTag.{FrameTag}
 use Rattle.table.specs.declared.kinds.Kind.{Kind}
 use Rattle.table.specs.declared.kinds.OutsideTag.{OutsideTag}
 use Rattle.answers.specs.Writing.{answered}
+use Rattle.tags.proofs.Laws.Alone.{after-heap}
 use Rattle.tags.proofs.Laws.ServesOutside.{Serves}
 use Rattle.display.specs.Decision.{groupAnswer}
 use Rattle.display.specs.Operation.{unasked, noted}
@@ -63,18 +65,27 @@ module _ (g : Decision) (b : Board) (o : Operation) where
   unfolding turnOf
   comes-group k request = record { goes-on = λ z. true≢false cc; said = refl; left = refl; noted = refl }
 
+-- no request changes the heap
+pub turn-heap : (g : Decision) (b : Board) (r : Request) → turnOf g b r .state .heap ≡ b .heap
+unfolding turnOf
+turn-heap g b passed = refl
+turn-heap g b short = refl
+turn-heap g b (asks (Kind.Outside t) request) = after-heap t request b
+turn-heap g b (asks (Kind.Group t) request) = refl
+
 -- ---- a walk with the group decided as g, of a message m₀ of `size` bytes on a record b₀
 -- at p, with the present message, record and operation: what is ahead comes to what the whole message asks, and behind p the message is as it came
 pub record Ahead (g : Decision) (m₀ : List ℕ) (size : ℕ) (b₀ : Board) (m : List ℕ) (b : Board) (o : Operation) (p : ℕ) : Type 0 where
   pub walking : Walking m size p
   pub same : length m ≡ length m₀
   pub rest : drop p m ≡ drop p m₀
+  pub heap-valid : validHeap (b .heap) ≡ true
   pub serves : trailServed g b o (trail m₀ size p) m ≡ tagsServed g b₀ m₀ size
 
-pub serve-start : (g : Decision) (m₀ : List ℕ) (size : ℕ) (b₀ : Board) {o : Operation} → Walking m₀ size header → o ≡ unasked (b₀ .display .settings)
-    → Ahead g m₀ size b₀ m₀ b₀ o header
-serve-start g m₀ size b₀ w e =
-    record { walking = w; same = refl; rest = refl; serves = ap (λ (x : Operation). trailServed g b₀ x (trail m₀ size header) m₀) e }
+pub serve-start : (g : Decision) (m₀ : List ℕ) (size : ℕ) (b₀ : Board) {o : Operation} → Walking m₀ size header → validHeap (b₀ .heap) ≡ true
+    → o ≡ unasked (b₀ .display .settings) → Ahead g m₀ size b₀ m₀ b₀ o header
+serve-start g m₀ size b₀ w v e =
+    record { walking = w; same = refl; rest = refl; heap-valid = v; serves = ap (λ (x : Operation). trailServed g b₀ x (trail m₀ size header) m₀) e }
 
 module _ (g : Decision) (m₀ : List ℕ) (size : ℕ) (b₀ : Board) (m : List ℕ) (b : Board) (o : Operation) (p : ℕ) (h : Ahead g m₀ size b₀ m b o p) {st : Step}
     (es : st ≡ step m size p) where
@@ -135,6 +146,7 @@ module _ (g : Decision) (m₀ : List ℕ) (size : ℕ) (b₀ : Board) (m : List 
           record {
             walking = walking-on m m′ size p (h .walking) f same;
             same = same ∙ h .same;
+            heap-valid = ap (λ (x : Board). validHeap (x .heap)) (c .left) ∙ ap validHeap (turn-heap g b r) ∙ h .heap-valid;
             rest = ap (drop next) em ∙ written-behind t s m next (omega arith) ∙ drop-later p next m m₀ (omega arith) (h .rest);
             serves = rw (w, c .left, c .noted) (ap (λ (x : Trail). trailServed g b o x m) (sym tr) ∙ h .serves);
           }

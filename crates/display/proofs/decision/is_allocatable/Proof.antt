@@ -11,7 +11,7 @@ one-bit-requires : tie.Need-one-bit-requires
 one-bit-requires c κs = search needs
 
 lowest-multiple-requires : tie.Need-lowest-multiple-requires
-lowest-multiple-requires c κs = sym (c .before .one-bit .ensures) ∙ c .if1 .taken
+lowest-multiple-requires c κs = (sym (c .before .before .one-bit .ensures) ∙ c .before .if1 .taken, search needs)
 
 need-requires : tie.Need-need-requires
 need-requires c κs = search needs
@@ -20,14 +20,14 @@ cast-result : tie.Need-cast-result
 cast-result c = search needs
 
 add-result : tie.Need-add-result
-add-result c = let aligned = sym (c .before .before .before .one-bit .ensures) ∙ c .before .before .if1 .taken in
+add-result c = let aligned = sym (c .before .before .before .before .one-bit .ensures) ∙ c .before .before .before .if1 .taken in
     let h = c .before .lowest-multiple .ensures in
     let k = c .need .ensures in
     omega (
       arith,
-      up-below _ (c .before .before .before .before .before .args .d .region .base) (one-bit-least _ aligned),
+      up-below _ (c .before .before .before .before .before .before .args .d .region .base) (one-bit-least _ aligned),
       need-most _
-          (c .before .before .before .before .before .pre),
+          (c .before .before .before .before .before .before .pre),
     )
 
 cast-result-2 : tie.Need-cast-result-2
@@ -41,7 +41,7 @@ add-result-2 c = search needs
 
 returns : tie.Need-returns
 returns c =
-    allocatable-by _ _ (sym (c .before .before .before .before .before .one-bit .ensures) ∙ c .before .before .before .before .if1 .taken)
+    allocatable-by _ _ (sym (c .before .before .before .before .before .before .one-bit .ensures) ∙ c .before .before .before .before .before .if1 .taken)
     (c .before .before .before .lowest-multiple .ensures) (c .before .before .need .ensures)
 
 returns-2 : tie.Need-returns-2
@@ -52,6 +52,7 @@ is-allocatable-spec =
     tie.close
     (tie.spec
     one-bit-requires
+    (search needs)
     lowest-multiple-requires
     need-requires
     cast-result

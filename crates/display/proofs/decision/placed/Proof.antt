@@ -6,18 +6,18 @@ use Rattle.display.proofs.decision.placed.Statement.{statement}
 use Rattle.display.proofs.decision.placed.Tie as tie
 
 lowest-multiple-requires : tie.Need-lowest-multiple-requires
-lowest-multiple-requires c κs = accepted-placed _ _ (c .before .before .pre .1) (c .before .if1 .taken) .aligned
+lowest-multiple-requires c κs = (accepted-placed _ _ (c .before .before .before .pre .1) (c .before .before .if1 .taken) .aligned, search needs)
 
-cast-t6 : tie.Need-cast-t6
-cast-t6 c = let h = placed-fits _ _ (c .before .before .before .pre .0) (c .before .before .before .pre .1) (c .before .before .if1 .taken) in
+cast-t7 : tie.Need-cast-t7
+cast-t7 c = let h = placed-fits _ _ (c .before .before .before .before .pre .0) (c .before .before .before .before .pre .1) (c .before .before .before .if1 .taken) in
     rw (c .lowest-multiple .ensures) (omega arith)
 
 need-requires : tie.Need-need-requires
-need-requires c κs = accepted-possible _ _ (c .before .before .before .pre .1)
+need-requires c κs = accepted-possible _ _ (c .before .before .before .before .pre .1)
 
 returns : tie.Need-returns
 unfolding placedAt
-returns c = rw (c .before .before .before .if1 .taken, c .before .lowest-multiple .ensures, c .need .ensures)
+returns c = rw (c .before .before .before .before .if1 .taken, c .before .lowest-multiple .ensures, c .need .ensures)
 
 no-buffer-requires : tie.Need-no-buffer-requires
 no-buffer-requires c κs = search needs
@@ -28,4 +28,4 @@ returns-2 c = search needs
 pub placed-spec : {M : Type 1} → statement M
 placed-spec =
     tie.close
-    (tie.spec lowest-multiple-requires cast-t6 need-requires returns no-buffer-requires returns-2)
+    (tie.spec (search needs) lowest-multiple-requires cast-t7 need-requires returns no-buffer-requires returns-2)

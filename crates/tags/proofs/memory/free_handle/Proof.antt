@@ -16,7 +16,7 @@ returns : tie.Need-returns Inv-loop μ-loop
 returns c = let l = c .before .before .before .before in free-found _ _ (l .loop .inv .1) (search needs) (c .if1 .taken)
 
 loop-again : tie.Need-loop-again Inv-loop μ-loop
-loop-again c = let l = c .before .before .before .before in (search needs, free-on _ _ (l .loop .inv .1) (c .if1 .left))
+loop-again c = let l = c .before .before .before .before in (search needs, free-on (l .before .args .t1) _ (l .loop .inv .1) (c .if1 .left))
 
 returns-2 : tie.Need-returns-2 Inv-loop μ-loop
 returns-2 c = free-none _ _ (c .before .loop .inv .1) (search needs)
