@@ -18,6 +18,9 @@ use Rattle.message.specs.Helpers.{Walking}
 use Rattle.message.specs.declared.opening.Message.{Message}
 use Rattle.message.specs.declared.opening.Opened.{Opened}
 use Rattle.message.specs.declared.walk.Ending.{Ending}
+use Rattle.board.proofs.Laws.Memory.{memory-parts}
+use Rattle.board.proofs.Laws.Record.{valid-parts}
+use Rattle.board.specs.Memory.{validHeap}
 use Rattle.board.specs.Record.{withDisplay, valid}
 use Rattle.board.specs.declared.display.Display.{Display}
 use Rattle.board.specs.declared.record.Board.{Board}
@@ -26,6 +29,8 @@ use Rattle.display.specs.declared.decision.Decision.{Decision}
 use Rattle.display.specs.declared.operation.Operation.{Operation}
 use Rattle.requests.specs.Requests.{Trail, trail}
 use Rattle.responder.proofs.Laws.Saids.{after-same, answers-unanswered, two-walks}
+use Rattle.responder.proofs.Laws.Serving.{turn-heap}
+use Rattle.responder.proofs.Laws.Turns.{turns-keep}
 use Rattle.responder.proofs.Laws.Twice.{twice}
 use Rattle.responder.proofs.Laws.Written.{writes-length}
 use Rattle.responder.specs.Answers.{groupBy, groupOf, turnOf, answers, after}
@@ -50,6 +55,17 @@ module _ (g : Decision) (b : Board) (m : List ℕ) (size : ℕ) where
 
   pub group-stays : g .answered ≡ false → m ≡ groupServed g b m size
   group-stays n = ap (λ (x : Bool). cond x (trailWritten (turnOf g) b (trail m size header) m) m) (sym n)
+
+-- ---- the heap of a valid record, and of what a walk leaves of one
+pub valid-heap : (b : Board) → valid b ≡ true → validHeap (b .heap) ≡ true
+valid-heap b v = memory-parts (b .display .region) (b .heap) (b .blocks) (valid-parts b v .memory) .placed
+
+pub walked-heap : (b : Board) (m : List ℕ) (size : ℕ) (g : Decision) {m₁ : List ℕ} {r : TagsServed} → leaves m₁ r ≡ tagsServed g b m size → valid b ≡ true
+    → validHeap (r .board .heap) ≡ true
+walked-heap b m size g e v =
+    ap (λ (x : Call TagsServed). validHeap (x .answer .board .heap)) e
+    ∙ turns-keep (turnOf g) (λ (x : Board). validHeap (x .heap) ≡ true) (λ s q h. ap validHeap (turn-heap g s q) ∙ h) b (trail m size header .requests)
+    (valid-heap b v)
 
 -- ---- a message that is served
 module _ (b : Board) (m : List ℕ) (size : ℕ) (w : Walking m size header) where

@@ -1,7 +1,7 @@
 use native.Mathlib.Omega.{arith}
 use borrow.Author.Needs.{needs}
 use Rattle.board.proofs.Laws.Record.{valid-parts}
-use Rattle.responder.proofs.Laws.Responding.{walked-walking, served-is}
+use Rattle.responder.proofs.Laws.Responding.{valid-heap, walked-walking, walked-heap, served-is}
 use Rattle.responder.proofs.respond.serve_opened.Statement.{statement}
 use Rattle.responder.proofs.respond.serve_opened.Tie as tie
 
@@ -9,7 +9,9 @@ leave-requires : tie.Need-leave-requires
 leave-requires c κs = valid-parts _ (c .before .before .before .pre .1) .display
 
 serve-tags-requires : tie.Need-serve-tags-requires
-serve-tags-requires c κs = search needs
+serve-tags-requires c κs =
+    let start = c .before .before .before .before in
+    (search needs, valid-heap _ (start .pre .1))
 
 group-of-requires : tie.Need-group-of-requires
 group-of-requires c κs = valid-parts _ (c .before .before .before .before .before .before .before .before .pre .1) .display
@@ -17,7 +19,10 @@ group-of-requires c κs = valid-parts _ (c .before .before .before .before .befo
 answer-group-requires : tie.Need-answer-group-requires
 answer-group-requires c κs =
     let at-walk = c .before .before .before .before .before in
-    walked-walking _ _ _ (at-walk .before .before .before .before .before .pre .0) (at-walk .before .leave .result) (at-walk .serve-tags .ensures)
+    let start = at-walk .before .before .before .before .before in (
+      walked-walking _ _ _ (start .pre .0) (at-walk .before .leave .result) (at-walk .serve-tags .ensures),
+      walked-heap _ _ _ (at-walk .before .leave .result) (at-walk .serve-tags .ensures) (start .pre .1),
+    )
 
 code-of-requires : tie.Need-code-of-requires
 code-of-requires c κs = search needs
