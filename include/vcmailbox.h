@@ -167,7 +167,20 @@ typedef struct {
     vc_span buffer;
 } vc_display;
 
-/* Devices have the ids 0 to 10, clocks 1 to 14, voltages 1 to 4, in this order. */
+/* A place for a block of the heap. Where it is taken: not empty, inside the heap, aligned to its alignment, which
+ * has one bit set, and with no byte of another block. Where it is free the rest says nothing. */
+typedef struct {
+    bool taken;
+    bool locked;
+    uint32_t base;
+    uint32_t size;
+    uint32_t alignment;
+    uint32_t flags;
+} vc_block;
+
+/* Devices have the ids 0 to 10, clocks 1 to 14, voltages 1 to 4, blocks of the heap the handles 1 to 32, in this
+ * order. The heap's base is above 0, its base + size below 2^32, and it shares no byte with the region for the
+ * frame buffer. */
 typedef struct {
     vc_facts facts;
     uint8_t line[256];
@@ -176,6 +189,8 @@ typedef struct {
     vc_voltage voltages[4];
     vc_temperature temperature;
     vc_display display;
+    vc_span heap;
+    vc_block blocks[32];
 } vc_board;
 
 /* Fills in the bench record, which is valid: a board to begin with. */

@@ -3,6 +3,7 @@
 
 pub mod builder;
 pub mod frame_buffer;
+pub mod memory;
 pub mod outcome;
 pub mod reader;
 pub mod record;

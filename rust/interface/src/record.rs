@@ -14,6 +14,15 @@ impl Span {
     pub fn end(&self) -> u64 {
         u64::from(self.base) + u64::from(self.size)
     }
+
+    /// Whether a byte lies in both; an empty span has none to share.
+    pub fn meets(&self, other: &Span) -> bool {
+        u64::from(self.base.max(other.base)) < self.end().min(other.end())
+    }
+
+    pub fn holds(&self, part: &Span) -> bool {
+        self.base <= part.base && part.end() <= self.end()
+    }
 }
 
 /// What never changes; `characters` is the length of the command line.
@@ -109,7 +118,28 @@ pub struct Display {
     pub buffer: Span,
 }
 
-/// Devices have the ids 0 to 10, clocks 1 to 14, voltages 1 to 4.
+/// A place for a block of the heap; all but `taken` means nothing while it is free.
+#[repr(C)]
+#[derive(Clone, Copy, PartialEq, Eq, Debug)]
+pub struct Block {
+    pub taken: bool,
+    pub locked: bool,
+    pub base: u32,
+    pub size: u32,
+    pub alignment: u32,
+    pub flags: u32,
+}
+
+impl Block {
+    pub const FREE: Block =
+        Block { taken: false, locked: false, base: 0, size: 0, alignment: 0, flags: 0 };
+
+    pub fn span(&self) -> Span {
+        Span { base: self.base, size: self.size }
+    }
+}
+
+/// Devices have the ids 0 to 10, clocks 1 to 14, voltages 1 to 4, blocks the handles 1 to 32.
 #[repr(C)]
 #[derive(Clone, Copy, PartialEq, Eq, Debug)]
 pub struct Board {
@@ -120,4 +150,6 @@ pub struct Board {
     pub voltages: [Voltage; 4],
     pub temperature: Temperature,
     pub display: Display,
+    pub heap: Span,
+    pub blocks: [Block; 32],
 }

@@ -1,5 +1,7 @@
-//! The tags outside the frame buffer group: facts, power, clocks, voltages, temperature.
+//! The tags outside the frame buffer group: facts, power, clocks, voltages, temperature,
+//! and those for memory handles, which are handed on.
 
+use crate::memory::{self, ALLOCATE_MEMORY, LOCK_MEMORY, RELEASE_MEMORY, UNLOCK_MEMORY};
 use crate::record::{Board, Clock, Device, Span, Temperature, Voltage};
 use crate::walk::word;
 
@@ -47,7 +49,7 @@ pub fn request_length(id: u32) -> Option<u32> {
         POWER_STATE | POWER_TIMING | CLOCK_STATE | CLOCK_RATE | CLOCK_MAX | CLOCK_MIN | VOLTAGE
         | VOLTAGE_MAX | VOLTAGE_MIN | TEMPERATURE | TEMPERATURE_MAX => Some(4),
         SET_POWER | SET_CLOCK_STATE | SET_CLOCK_RATE | SET_VOLTAGE => Some(8),
-        _ => None,
+        _ => memory::request_length(id),
     }
 }
 
@@ -70,6 +72,9 @@ pub fn carry_out(board: &mut Board, id: u32, value: &mut [u8]) -> u32 {
             voltage(&mut board.voltages, id, value)
         }
         TEMPERATURE | TEMPERATURE_MAX => temperature(&board.temperature, id, value),
+        ALLOCATE_MEMORY | LOCK_MEMORY | UNLOCK_MEMORY | RELEASE_MEMORY => {
+            return memory::carry_out(board, id, value)
+        }
         _ => clock(&mut board.clocks, id, value),
     };
     let item = word(value, 0);

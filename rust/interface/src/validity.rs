@@ -1,7 +1,7 @@
 //! Which board records are valid.
 
 use crate::frame_buffer::{need, supported};
-use crate::record::{Board, Clock, Display, Facts, Span, State, Voltage};
+use crate::record::{Block, Board, Clock, Display, Facts, Span, State, Voltage};
 
 const HIGHEST_MILLIVOLTS: u32 = 10_000;
 const DMA_CHANNELS: u32 = 0xFFFF;
@@ -12,6 +12,8 @@ pub fn is_valid(board: &Board) -> bool {
         && board.clocks.iter().all(clock_valid)
         && board.voltages.iter().all(voltage_valid)
         && display_valid(&board.display)
+        && heap_valid(&board.heap, &board.display.region)
+        && blocks_valid(&board.blocks, &board.heap)
 }
 
 fn facts_valid(facts: &Facts, longest_line: usize) -> bool {
@@ -39,8 +41,26 @@ fn display_valid(display: &Display) -> bool {
     let Display { region, settings, buffer } = display;
     region.end() <= u64::from(u32::MAX)
         && supported(settings, region)
-        && (*buffer == Span::NONE
-            || (region.base <= buffer.base
-                && buffer.end() <= region.end()
-                && need(settings) <= buffer.size))
+        && (*buffer == Span::NONE || (region.holds(buffer) && need(settings) <= buffer.size))
+}
+
+fn heap_valid(heap: &Span, region: &Span) -> bool {
+    heap.base > 0 && heap.end() <= u64::from(u32::MAX) && !heap.meets(region)
+}
+
+/// Every taken place holds a sound block, apart from those in the places before it.
+fn blocks_valid(blocks: &[Block], heap: &Span) -> bool {
+    blocks.iter().enumerate().filter(|(_, block)| block.taken).all(|(place, block)| {
+        block_valid(block, heap)
+            && blocks[..place]
+                .iter()
+                .all(|other| !other.taken || !other.span().meets(&block.span()))
+    })
+}
+
+fn block_valid(block: &Block, heap: &Span) -> bool {
+    block.size > 0
+        && heap.holds(&block.span())
+        && block.alignment.is_power_of_two()
+        && block.base % block.alignment == 0
 }

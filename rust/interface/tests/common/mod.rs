@@ -2,7 +2,8 @@
 
 use interface::*;
 
-/// A valid record: clock 3 and the display are as on the bench, every kind of item is there and absent.
+/// A valid record: clock 3, the display and the heap are as on the bench, every kind of item is
+/// there and absent, and no block is.
 pub fn board() -> Board {
     let mut board = Board {
         facts: Facts {
@@ -22,6 +23,8 @@ pub fn board() -> Board {
         voltages: [Voltage { valid: false, value: 20_000, min: 3, max: 1 }; 4],
         temperature: Temperature { current: 42_000, max: 85_000 },
         display: display(),
+        heap: Span { base: 0x3C80_0000, size: 0x0040_0000 },
+        blocks: [Block::FREE; 32],
     };
     board.line[..7].copy_from_slice(b"quiet=1");
     let on = State { exists: true, on: true };
