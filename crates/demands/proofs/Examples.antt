@@ -8,6 +8,7 @@ use Rattle.board.specs.Bench.{bench}
 use Rattle.board.specs.Display.{pitch, need, sides, depths, offsets, possible, supported, validBuffer, validDisplay}
 use Rattle.board.specs.Facts.{validFacts}
 use Rattle.board.specs.Items.{validState, validDevice, validClock, validVoltage}
+use Rattle.board.specs.Memory.{apart, validHeap, validBlock, disjoint, validMemory}
 use Rattle.board.specs.Record.{valid}
 use Rattle.table.specs.Table.{outsideTags, groupTags, table, rowOf}
 use Rattle.answers.specs.Writing.{answered}
@@ -25,5 +26,5 @@ use Rattle.responder.specs.Reply.{served, reply}
 use Rattle.demands.specs.Examples.{Examples, comesOut, cases}
 
 pub examples : Examples
-unfolding comesOut cases reply served valid validFacts validState validDevice validClock validVoltage validBuffer validDisplay supported possible sides depths offsets pitch need bench opened goodSize numberAt trail walkFrom step overruns tagAt requestOf requestBy requestBytes rowOf table outsideTags groupTags groupOf decided accepted allocatable fitsBuffer placedAt oneBit onesIn supportedFrom nthWord noted withSetting turnOf outsideAnswer outsideAfter factAnswer placeOf settled clockAfter clockValue present groupAnswer answered maxOffset minOffset
+unfolding comesOut cases reply served valid validFacts validState validDevice validClock validVoltage validBuffer validDisplay validMemory validHeap apart validBlock disjoint supported possible sides depths offsets pitch need bench opened goodSize numberAt trail walkFrom step overruns tagAt requestOf requestBy requestBytes rowOf table outsideTags groupTags groupOf decided accepted allocatable fitsBuffer placedAt oneBit onesIn supportedFrom nthWord noted withSetting turnOf outsideAnswer outsideAfter factAnswer placeOf settled clockAfter clockValue present groupAnswer answered maxOffset minOffset
 examples = tt

@@ -1,7 +1,7 @@
 -- A valid record stays valid under every call.
 use mathlib.Core.Bool.{Bool, true, false}
 use mathlib.Core.List.{List}
-use mathlib.Core.Path.{_≡_}
+use mathlib.Core.Path.{_≡_, sym, ap, _∙_}
 use Prim.Native.Nat.{ℕ}
 use lib.Dec.{eqb}
 use Rattle.words.specs.Numbers.{word}
@@ -22,6 +22,7 @@ use Rattle.display.specs.declared.operation.Operation.{Operation}
 use Rattle.requests.specs.Requests.{Request, passed, short, asks, trail}
 use Rattle.responder.specs.Answers.{groupBy, groupOf, turnOf, after}
 use Rattle.responder.specs.Reply.{served, codedIf, openedIf, reply}
+use Rattle.responder.proofs.Laws.GroupAlone.{group-region, display-kept}
 use Rattle.responder.proofs.Laws.Turns.{turns-keep}
 use Rattle.demands.specs.Kept.{Kept}
 
@@ -43,6 +44,7 @@ served-valid b m size v =
     let g = groupOf (b .display) (tr .ending) (tr .requests) in
     display-valid (after g b (tr .requests)) (g .display) (turns-keep (turnOf g) (λ (x : Board). valid x ≡ true) (turn-valid g) b (tr .requests) v)
     (group-valid (eqb (tr .ending .outcome) done) (b .display) _ (valid-parts b v .display))
+    (group-region (b .display) (tr .ending) (tr .requests) ∙ sym (ap (λ (d : Display). d .region) (display-kept g b (tr .requests))))
 
 pub kept : Kept
 unfolding reply

@@ -14,3 +14,5 @@ pub mod ServedMet
 pub mod LongerValuesMet
 pub mod Panning
 pub mod PanningMet
+pub mod Memory
+pub mod BytesHeld

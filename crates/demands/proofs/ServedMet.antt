@@ -140,7 +140,7 @@ standingBuffer = withDisplay bench (record {
 
 standing-valid : valid standingBuffer ≡ true
 unfolding bench validDisplay validBuffer supported possible sides depths offsets pitch need
-standing-valid = display-valid bench (standingBuffer .display) bench-valid refl
+standing-valid = display-valid bench (standingBuffer .display) bench-valid refl refl
 
 abbrev pub releaseRefused : List ℕ
 releaseRefused = wordBytes (40 ∷ 0 ∷ 0x00048001 ∷ 0 ∷ 0 ∷ 0x00048005 ∷ 4 ∷ 0 ∷ 7 ∷ 0 ∷ [])

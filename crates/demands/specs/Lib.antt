@@ -10,3 +10,5 @@ pub mod Walked
 pub mod ReadingBack
 pub mod LongerValues
 pub mod Panning
+pub mod Memory
+pub mod BytesHeld
