@@ -1,4 +1,5 @@
 // Messages that are served, and what they hold afterwards.
+use crate::blocks;
 use crate::lines;
 use board::bench::bench_record;
 use board::record::Board;
@@ -10,7 +11,7 @@ ghost use mathlib.Core.Path.{_≡_};
 ghost use Rattle.board.specs.Bench.{bench};
 ghost use Rattle.responder.specs.Reply.{reply};
 
-// Serves the bytes, prints outcome, place, words and display, and gives the record afterwards.
+// Serves the bytes, prints outcome, place, words, display and blocks, and gives the record afterwards.
 pub fn serve_and_draw(name: &[u8], board: Board, bytes: &mut [u8]) -> Board
     ensures { λ r. ⌜ now (bytes .exit) ≡ reply board (now (bytes .entry)) .bytes ⌝ }
     ensures { λ r. ⌜ r ≡ reply board (now (bytes .entry)) .answer .board ⌝ }
@@ -20,6 +21,8 @@ pub fn serve_and_draw(name: &[u8], board: Board, bytes: &mut [u8]) -> Board
     print_words(bytes);
     let after = served.board;
     lines::of_display(after.display);
+    let left = after.blocks;
+    blocks::of_blocks(left);
     after
 }
 

@@ -72,7 +72,7 @@ fn put_words(bytes: &mut [u8], words: &[u8]) -> usize
 
 fn serve_message(board: Board, line: &[u8]) -> Board {
     let colon = position_of(line, 0, b':');
-    let mut buffer = [0u8; 256];
+    let mut buffer = [0u8; 1024];
     let n = put_words(&mut buffer, &line[colon..]);
     serve_and_draw(&line[..colon], board, &mut buffer[..n])
 }

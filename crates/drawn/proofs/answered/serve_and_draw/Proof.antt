@@ -7,4 +7,4 @@ returns : tie.Need-returns
 returns c = search reply-left
 
 pub serve-and-draw-spec : {M : Type 1} → statement M
-serve-and-draw-spec = tie.close (tie.spec (search needs) (search needs) (search needs) (search needs) (search needs) returns)
+serve-and-draw-spec = tie.close (tie.spec (search needs) (search needs) (search needs) (search needs) (search needs) (search needs) returns)
