@@ -33,6 +33,10 @@ unfolding oneBit
 one-bit-least zero e = absurd (false≢true e)
 one-bit-least (suc a) e = zero-lt-suc a
 
+pub one-bit-one : oneBit 1 ≡ true
+unfolding oneBit onesIn
+one-bit-one = refl
+
 module _ (a b : ℕ) (p : 0 < a) where
   pub up-above : b ≤ roundUp a b
   up-above = omega (arith, div-add-mod' (b + (a - 1)) a, mod-lt (b + (a - 1)) p)

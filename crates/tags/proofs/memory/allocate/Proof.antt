@@ -1,6 +1,6 @@
-use mathlib.Core.Path.{sym, ap, _∙_}
-use native.Mathlib.Omega.{arith}
+use mathlib.Core.Path.{sym, _∙_}
 use borrow.Author.Tests.{not-false}
+use Rattle.words.proofs.Laws.Align.{one-bit-one}
 use Rattle.tags.proofs.Laws.Memory.{size-refused, alignment-refused, place-refused, address-refused, is-granted}
 use borrow.Author.Needs.{needs}
 use Rattle.tags.proofs.memory.allocate.Statement.{statement}
@@ -17,8 +17,8 @@ returns-3 c = place-refused _ _ _ _ _ (c .before .before .before .one-bit .ensur
 
 lowest-address-requires : tie.Need-lowest-address-requires
 lowest-address-requires c κs =
-    let tested = c .before .before .before in
-    (search needs, search needs, sym (tested .one-bit .ensures) ∙ not-false _ (c .before .before .if2 .left))
+    let single = sym (c .before .before .before .one-bit .ensures) ∙ not-false _ (c .before .before .if2 .left) in
+    (search needs, search needs, search (single, one-bit-one))
 
 returns-4 : tie.Need-returns-4
 returns-4 c =
