@@ -44,8 +44,8 @@ fn check(request: &Request, serve: impl Fn(&mut Board, &mut [u8]) -> (u32, usize
     assert_eq!(board, request.board);
 }
 
-/// Allocate and release by turns, on a record with so many blocks. The gaps between them are too small,
-/// so that the search for room passes every block; the handle is always the one behind theirs.
+/// Allocate and release by turns, on a record with so many blocks. The gaps between them are too
+/// small, so that the search for room passes every block; the handle is the one behind theirs.
 pub fn by_turns(name: &'static str, blocks: u32) -> Request {
     let allocate = vec![ALLOCATE, 12, 0, 2 * STEP, STEP, 0];
     let release = vec![RELEASE, 4, 0, blocks + 1];

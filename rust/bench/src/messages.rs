@@ -3,8 +3,8 @@
 use crate::memory;
 use interface::Board;
 
-/// A message, how many tags it has, the record that it is first served on, and the outcome that serving
-/// it has.
+/// A message, how many tags it has, the record that it is first served on, and the outcome that
+/// serving it has.
 pub struct Request {
     pub name: &'static str,
     pub tags: usize,
@@ -13,8 +13,8 @@ pub struct Request {
     pub outcome: u32,
 }
 
-/// A finished message of these tags for the bench record: size, code 0, the tags, the end word, zeros up
-/// to a multiple of 16.
+/// A finished message of these tags for the bench record: size, code 0, the tags, the end word,
+/// zeros up to a multiple of 16.
 pub fn request(name: &'static str, tags: impl Iterator<Item = Vec<u32>>) -> Request {
     let mut count = 0;
     let mut words = vec![0, 0];
@@ -66,7 +66,7 @@ fn refused() -> Request {
     Request { outcome: 3, ..refused }
 }
 
-/// No tags on a record whose 32 places are taken: beside the bench record, what the check of its blocks
+/// No tags on a record whose 32 places are taken: beside the bench record, what the check of blocks
 /// takes.
 fn no_tags_32_blocks() -> Request {
     Request { board: memory::record(32), ..request("no tags, 32 blocks", [].into_iter()) }
