@@ -1,29 +1,48 @@
 /* Every field of the record, written by the header's layout and told by the board's answers: a field that
- * stood elsewhere in the library's own record would answer with another one's number. */
+ * stood elsewhere in the library's own record would answer with another one's number. A block's lock and flags, which
+ * no answer tells, are shown as the board leaves them in the record. */
 #include <stdio.h>
 #include <string.h>
 
 #include "vcmailbox.h"
 
+enum { ALLOCATE = 0x0003000c, LOCK = 0x0003000d, UNLOCK = 0x0003000e, RELEASE = 0x0003000f };
+
 static uint8_t buffer[64];
+
+/* Has the board answer a tag with this request. The answer's words are in the buffer from `value` on. */
+static uint32_t send(vc_board *board, uint32_t id, const uint32_t request[3], uint32_t *word, uint32_t *value)
+{
+    uint8_t bytes[12];
+    uint32_t cursor, size, place, length;
+    for (size_t i = 0; i < sizeof bytes; i++)
+        bytes[i] = (uint8_t)(request[i / 4] >> (8 * (i % 4)));
+    vc_start(buffer, sizeof buffer, &cursor);
+    vc_add(buffer, sizeof buffer, &cursor, id, sizeof bytes, bytes, sizeof bytes);
+    vc_finish(buffer, sizeof buffer, cursor, &size);
+    const uint32_t outcome = vc_serve(board, buffer, size, &place);
+    vc_list(buffer, size, 0, &place, &id, &length, word, value);
+    return outcome;
+}
+
+/* The number of `length` bytes at a place of the buffer. */
+static uint32_t number_at(uint32_t at, uint32_t length)
+{
+    uint32_t number = 0;
+    for (uint32_t k = length; k > 0; k--)
+        number = number << 8 | buffer[at + k - 1];
+    return number;
+}
 
 /* Asks the board for one thing, and prints the answer: word by word, or byte by byte where it is not of words. */
 static void ask(vc_board *board, const char *what, uint32_t id, uint8_t item)
 {
-    const uint8_t request[4] = {item, 0, 0, 0};
-    uint32_t cursor, size, place, length, word, value;
-    vc_start(buffer, sizeof buffer, &cursor);
-    vc_add(buffer, sizeof buffer, &cursor, id, 8, request, sizeof request);
-    vc_finish(buffer, sizeof buffer, cursor, &size);
-    printf("%s: outcome %u,", what, (unsigned)vc_serve(board, buffer, size, &place));
-    vc_list(buffer, size, 0, &place, &id, &length, &word, &value);
+    const uint32_t request[3] = {item, 0, 0};
+    uint32_t word, value;
+    printf("%s: outcome %u,", what, (unsigned)send(board, id, request, &word, &value));
     const uint32_t answer = word & 0x7fffffff, step = answer % 4 == 0 ? 4 : 1;
-    for (uint32_t at = 0; at < answer; at += step) {
-        uint32_t number = 0;
-        for (uint32_t k = step; k > 0; k--)
-            number = number << 8 | buffer[value + at + k - 1];
-        printf(step == 4 ? " %u" : " 0x%02x", (unsigned)number);
-    }
+    for (uint32_t at = 0; at < answer; at += step)
+        printf(step == 4 ? " %u" : " 0x%02x", (unsigned)number_at(value + at, step));
     printf("\n");
 }
 
@@ -71,6 +90,81 @@ static void fill_display(vc_display *display)
     display->buffer = (vc_span){.base = 0, .size = 0};
 }
 
+/* Blocks in the first, a middle and the last place, and numbers that say nothing in one that is free. Before, between
+ * and behind the blocks are 10, 20, 30 and 40 bytes of room. No base is a multiple of twice its alignment. */
+static void fill_memory(vc_board *board)
+{
+    vc_block *first = &board->blocks[0], *middle = &board->blocks[16], *last = &board->blocks[31];
+    board->heap = (vc_span){.base = 1048707062, .size = 151203125};
+    *first = (vc_block){.taken = true, .base = 8001 * 131072, .size = 65470444, .alignment = 131072, .flags = 400001};
+    *middle = (vc_block){.taken = true, .base = 17001 * 65536, .size = 65732578, .alignment = 65536, .flags = 400002};
+    *last = (vc_block){.taken = true, .base = 4501 * 262144, .size = 20000003, .alignment = 262144, .flags = 400003};
+    board->blocks[1] = (vc_block){.locked = true, .base = 401, .size = 0, .alignment = 402, .flags = 403};
+}
+
+/* The handles of the blocks in the first, a middle and the last place. */
+static const uint8_t handles[] = {1, 17, 32};
+enum { HANDLES = sizeof handles };
+
+/* Prints a block as it stands in the record: its base, size, alignment and flags. */
+static void show(const vc_board *board, uint8_t handle)
+{
+    const vc_block *block = &board->blocks[handle - 1];
+    printf("block %u in the record:%s%s %u %u %u %u\n", (unsigned)handle, block->taken ? " taken" : "",
+           block->locked ? " locked" : "", (unsigned)block->base, (unsigned)block->size, (unsigned)block->alignment,
+           (unsigned)block->flags);
+}
+
+/* Has the board answer a tag, and gives the answer's first word. */
+static uint32_t answer(vc_board *board, uint32_t id, uint32_t first, uint32_t second, uint32_t third)
+{
+    const uint32_t request[3] = {first, second, third};
+    uint32_t word, value;
+    send(board, id, request, &word, &value);
+    return number_at(value, 4);
+}
+
+/* A block's address and lock, and its alignment: with twice of it the record is not valid. */
+static void tell_block(vc_board *board, uint8_t handle)
+{
+    vc_block *block = &board->blocks[handle - 1];
+    const uint32_t request[3] = {handle, 0, 0};
+    uint32_t word, value;
+    ask(board, "lock", LOCK, handle);
+    show(board, handle);
+    ask(board, "unlock", UNLOCK, handle);
+    show(board, handle);
+    block->alignment *= 2;
+    printf("twice its alignment: outcome %u\n", (unsigned)send(board, LOCK, request, &word, &value));
+    block->alignment /= 2;
+}
+
+/* Where the board finds room, and for how much: the blocks' sizes, and the heap's base and size. */
+static void tell_room(vc_board *board)
+{
+    static const uint32_t sizes[] = {41, 40, 30, 20, 10, 1};
+    for (size_t i = 0; i < sizeof sizes / sizeof *sizes; i++) {
+        const uint32_t handle = answer(board, ALLOCATE, sizes[i], 1, 0);
+        const uint32_t address = answer(board, LOCK, handle, 0, 0);
+        printf("room for %u: handle %u, address %u\n", (unsigned)sizes[i], (unsigned)handle, (unsigned)address);
+    }
+}
+
+/* Releases the three blocks, and has the board fill their places and all others itself. */
+static void refill(vc_board *board)
+{
+    for (size_t i = 0; i < HANDLES; i++) {
+        ask(board, "release", RELEASE, handles[i]);
+        show(board, handles[i]);
+    }
+    for (uint32_t i = 0; i < 32; i++)
+        answer(board, ALLOCATE, 70000 + i, 65536u << i % 8, 500000 + i);
+    for (size_t i = 0; i < HANDLES; i++) {
+        show(board, handles[i]);
+        ask(board, "lock", LOCK, handles[i]);
+    }
+}
+
 int main(void)
 {
     static const struct {
@@ -96,9 +190,15 @@ int main(void)
     fill_facts(&board);
     fill_items(&board);
     fill_display(&board.display);
+    fill_memory(&board);
     printf("record of %u bytes\n", (unsigned)sizeof board);
     for (size_t i = 0; i < sizeof questions / sizeof *questions; i++)
         ask(&board, questions[i].what, questions[i].id, questions[i].item);
     printf("buffer in the record: %u %u\n", (unsigned)board.display.buffer.base, (unsigned)board.display.buffer.size);
+    for (size_t i = 0; i < HANDLES; i++)
+        tell_block(&board, handles[i]);
+    ask(&board, "lock of a free place", LOCK, 2);
+    tell_room(&board);
+    refill(&board);
     return 0;
 }

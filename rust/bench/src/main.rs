@@ -5,6 +5,7 @@
 //! turn is shown, and the average of all its turns.
 
 mod clock;
+mod memory;
 mod messages;
 
 use clock::{timed, Spent};
@@ -44,7 +45,7 @@ fn turn(
     for copy in buffer.chunks_exact_mut(length) {
         copy.copy_from_slice(&request.bytes);
     }
-    let mut board = vcmailbox::bench();
+    let mut board = request.board;
     timed(|| {
         for copy in buffer.chunks_exact_mut(length) {
             assert_eq!(serve(&mut board, copy), request.outcome);
@@ -122,8 +123,8 @@ fn building() {
 
 /// Reads the last tag's answer: the walk of the whole message.
 fn reading(request: &Request) {
-    let mut reply = request.bytes.clone();
-    vcmailbox::serve(&mut vcmailbox::bench(), &mut reply);
+    let (mut board, mut reply) = (request.board, request.bytes.clone());
+    vcmailbox::serve(&mut board, &mut reply);
     let mut copy = reply.clone();
     let last = request.tags - 1;
     let times = times(

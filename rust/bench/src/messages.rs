@@ -1,15 +1,21 @@
 //! The messages that are timed.
 
-/// A message, how many tags it has, and the outcome that serving it has.
+use crate::memory;
+use interface::Board;
+
+/// A message, how many tags it has, the record that it is first served on, and the outcome that
+/// serving it has.
 pub struct Request {
     pub name: &'static str,
     pub tags: usize,
     pub bytes: Vec<u8>,
+    pub board: Board,
     pub outcome: u32,
 }
 
-/// A finished message of these tags: size, code 0, the tags, the end word, zeros up to a multiple of 16.
-fn request(name: &'static str, tags: impl Iterator<Item = Vec<u32>>) -> Request {
+/// A finished message of these tags for the bench record: size, code 0, the tags, the end word,
+/// zeros up to a multiple of 16.
+pub fn request(name: &'static str, tags: impl Iterator<Item = Vec<u32>>) -> Request {
     let mut count = 0;
     let mut words = vec![0, 0];
     words.extend(tags.inspect(|_| count += 1).flatten());
@@ -17,7 +23,7 @@ fn request(name: &'static str, tags: impl Iterator<Item = Vec<u32>>) -> Request 
     words.resize(words.len().next_multiple_of(4), 0);
     words[0] = words.len() as u32 * 4;
     let bytes = words.iter().flat_map(|word| word.to_le_bytes()).collect();
-    Request { name, tags: count, bytes, outcome: 0 }
+    Request { name, tags: count, bytes, board: vcmailbox::bench(), outcome: 0 }
 }
 
 /// Set rate of clocks 1 to 14 in turn, a different rate each time.
@@ -60,6 +66,12 @@ fn refused() -> Request {
     Request { outcome: 3, ..refused }
 }
 
+/// No tags on a record whose 32 places are taken: beside the bench record, what the check of blocks
+/// takes.
+fn no_tags_32_blocks() -> Request {
+    Request { board: memory::record(32), ..request("no tags, 32 blocks", [].into_iter()) }
+}
+
 pub fn all() -> Vec<Request> {
     vec![
         request("a screen's settings", screen().into_iter()),
@@ -70,5 +82,8 @@ pub fn all() -> Vec<Request> {
         request("a MAC address alone", [mac()].into_iter()),
         request("no tags", [].into_iter()),
         refused(),
+        no_tags_32_blocks(),
+        memory::by_turns("memory, no blocks", 0),
+        memory::by_turns("memory, 31 blocks", 31),
     ]
 }

@@ -27,6 +27,10 @@ pub fn tag(id: u32) -> &'static str {
         0x0003_0008 => "get minimum voltage",
         0x0003_0006 => "get temperature",
         0x0003_000a => "get maximum temperature",
+        0x0003_000c => "allocate memory",
+        0x0003_000d => "lock memory",
+        0x0003_000e => "unlock memory",
+        0x0003_000f => "release memory",
         0x0004_0001 => "allocate frame buffer",
         0x0004_8001 => "release frame buffer",
         0x0004_0008 => "get pitch",
@@ -59,4 +63,9 @@ pub fn code(word: u32) -> &'static str {
 
 pub fn is_reply(code: u32) -> bool {
     matches!(code, 0x8000_0000 | 0x8000_0001)
+}
+
+/// Whether a tag word is that of an answer.
+pub fn is_answer(word: u32) -> bool {
+    word >> 31 == 1
 }

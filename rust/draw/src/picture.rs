@@ -12,7 +12,7 @@ const ALIKE: usize = 4;
 /// The tag word of a tag with a value of `size` bytes.
 fn tag_word(word: u32, size: usize, reply: bool) -> String {
     let length = (word & 0x7fff_ffff) as usize;
-    let text = if word >> 31 == 1 {
+    let text = if names::is_answer(word) {
         let stored = if length > size { format!(", {size} stored") } else { String::new() };
         format!("answer of {}{stored}", count(length))
     } else if reply {
@@ -33,7 +33,7 @@ fn describe(role: Role, word: u32) -> String {
         Role::Id => format!("tag, {}", names::tag(word)),
         Role::ValueSize => format!("  value size {word}"),
         Role::TagWord(size, reply) => tag_word(word, size, reply),
-        Role::Value { tag, index, count } => value(tag, index, count, word),
+        Role::Value { tag, answered, index, count } => value(tag, answered, index, count, word),
         Role::End => "end".to_string(),
         Role::Padding => "padding".to_string(),
         Role::Fault => format!("tag, {}, runs over", names::tag(word)),

@@ -1,8 +1,9 @@
 //! What each word of a message is.
 
-use crate::names::is_reply;
+use crate::names::{is_answer, is_reply};
 use crate::outcomes::{BAD_SIZE, TOO_FEW};
 use crate::words::word;
+use vcmailbox::Listed;
 
 #[derive(Clone, Copy, PartialEq)]
 pub enum Role {
@@ -15,9 +16,11 @@ pub enum Role {
     ValueSize,
     /// A tag word, with the size of the tag's value, and whether the message is a reply.
     TagWord(usize, bool),
-    /// The word of this index in the value of this tag, and how many of its bytes are the value's.
+    /// The word of this index in the value of this tag, whether the tag has its answer, and how
+    /// many of the word's bytes are the value's.
     Value {
         tag: u32,
+        answered: bool,
         index: usize,
         count: usize,
     },
@@ -31,12 +34,14 @@ pub enum Role {
     Behind,
 }
 
-/// The words of a tag of this id, with a value of `size` bytes.
-fn tag(id: u32, size: usize, reply: bool) -> Vec<Role> {
+/// The words of a tag.
+fn tag(listed: &Listed, reply: bool) -> Vec<Role> {
+    let (tag, size) = (listed.id, listed.size as usize);
+    let answered = is_answer(listed.word);
     let mut roles = vec![Role::Id, Role::ValueSize, Role::TagWord(size, reply)];
     for index in 0..size.div_ceil(4) {
         let count = (size - index * 4).min(4);
-        roles.push(Role::Value { tag: id, index, count });
+        roles.push(Role::Value { tag, answered, index, count });
     }
     roles
 }
@@ -51,7 +56,7 @@ fn tags(bytes: &[u8]) -> (Vec<Role>, u32) {
         if listed.outcome != 0 {
             return (roles, listed.outcome);
         }
-        roles.extend(tag(listed.id, listed.size as usize, reply));
+        roles.extend(tag(&listed, reply));
         index += 1;
     }
 }
