@@ -9,7 +9,7 @@ use native.Mathlib.Omega.{arith}
 use borrow.Author.Tests.{eqb-true, eq-eqb, ne-eqb, leb-true, le-leb, lt-leb, ltb-true, lt-ltb, le-ltb, not-true, not-false}
 use lib.Dec.{eqb, leb, ltb}
 use lib.ListN.{length, getD, set, List·getD-eq-default}
-use Rattle.words.proofs.Laws.Every.{every-set, pairs-set}
+use Rattle.words.proofs.Laws.Every.{every-set, every-from, pairs-set}
 use Rattle.words.specs.Align.{oneBit, aligned}
 use Rattle.words.specs.Every.{every, pairs}
 use Rattle.board.specs.Memory.{span, inside, apart, noBlock, bytesOf, clearOf, validHeap, validBlock, disjoint, validMemory}
@@ -161,6 +161,11 @@ disjoint-none b = go (b .taken)
     go : (t : Bool) → (not t || true) ≡ true
     go true = refl
     go false = refl
+
+-- a free place is disjoint from every block
+pub free-disjoint : (b : Block) → b .taken ≡ false → (cs : List Block) → every (disjoint b) cs ≡ true
+unfolding disjoint
+free-disjoint b e cs = every-from (disjoint b) noBlock cs (λ i l. rw e)
 
 pub no-block-valid : (heap : Span) → validBlock heap noBlock ≡ true
 unfolding validBlock
