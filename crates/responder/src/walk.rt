@@ -133,8 +133,7 @@ pub fn serve_tags(board: Board, msg: &mut [u8], size: usize, group: Decision) ->
                         put_pair(msg, tag.at, tag.size, id, n);
                     }
                     OutsideTag::Allocate => {
-                        let blocks = b.blocks;
-                        let allocation = allocate(b.heap, blocks, id, x, nth_word(request, 2));
+                        let allocation = allocate(b.heap, b.blocks, id, x, nth_word(request, 2));
                         let Allocation::Granted(handle, block) = allocation else {
                             put_word(msg, tag.at, tag.size, 0);
                             p = next;
