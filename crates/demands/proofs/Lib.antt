@@ -16,3 +16,4 @@ pub mod Panning
 pub mod PanningMet
 pub mod Memory
 pub mod BytesHeld
+pub mod MemoryMet
