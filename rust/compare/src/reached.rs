@@ -1,7 +1,10 @@
-//! What a run has reached: outcomes, tags answered, cases of the frame buffer group, kinds of calls.
+//! What a run has reached: outcomes, tags answered, cases of the frame buffer group and of memory,
+//! kinds of calls.
 
 mod group;
+mod heaps;
 mod kinds;
+mod memory;
 mod messages;
 mod offsets;
 
@@ -9,11 +12,12 @@ use crate::case::Call;
 use crate::known;
 use crate::sides::Side;
 use crate::walk::{self, word, ANSWERED};
-use std::collections::BTreeMap;
+use interface::Span;
+use std::collections::{BTreeMap, HashMap};
 use std::fmt;
 
 /// Something that a run can reach.
-#[derive(Clone, Copy, PartialEq, Eq, PartialOrd, Ord)]
+#[derive(Clone, Copy, PartialEq, Eq, PartialOrd, Ord, Hash)]
 pub enum Thing {
     /// A function and an outcome of it.
     Outcome(&'static str, u64),
@@ -23,6 +27,10 @@ pub enum Thing {
     Group(&'static str),
     /// An axis, a kind of virtual offset on it, and what has it: a set, a test or a record.
     Offset(&'static str, &'static str, &'static str),
+    /// A tag of memory, and a case of it.
+    Memory(&'static str, &'static str),
+    /// Whether a record is taken or refused, and for what of its heap and blocks.
+    Heap(&'static str, &'static str),
     /// An alignment that was decided on.
     Alignment(u32),
     /// A command line of this length answered.
@@ -40,6 +48,8 @@ impl fmt::Display for Thing {
             Thing::Tag(id) => write!(to, "tag {id:08x} answered"),
             Thing::Group(case) => write!(to, "group {case}"),
             Thing::Offset(axis, kind, asked) => write!(to, "{axis} offset {kind}, {asked}"),
+            Thing::Memory(tag, case) => write!(to, "memory: {tag} {case}"),
+            Thing::Heap(taken, name) => write!(to, "record {taken} with {name}"),
             Thing::Alignment(alignment) => write!(to, "group with alignment {alignment}"),
             Thing::Line(length) => write!(to, "command line of {length} answered"),
             Thing::Address(rest) => write!(to, "message at an address of {rest} modulo 16"),
@@ -62,12 +72,21 @@ const OUTCOMES: [(&str, &[u64]); 7] = [
 /// The lengths of a command line that must be answered.
 const LINES: [u32; 4] = [0, 1, 255, 256];
 
-#[derive(Default)]
 pub struct Reached {
-    counts: BTreeMap<Thing, u64>,
+    counts: HashMap<Thing, u64>,
+    released: memory::Released,
 }
 
 impl Reached {
+    pub fn new() -> Reached {
+        Reached { counts: HashMap::new(), released: [Span::NONE; 32] }
+    }
+
+    /// Another case begins.
+    pub fn start_case(&mut self) {
+        self.released = [Span::NONE; 32];
+    }
+
     fn add(&mut self, thing: Thing) {
         *self.counts.entry(thing).or_insert(0) += 1;
     }
@@ -95,6 +114,8 @@ impl Reached {
         self.add(Thing::Address(after.address));
         self.count_message(before, after, &tags);
         self.count_stored_offset(&before.board, after.numbers[0]);
+        self.count_stored_heap(&before.board, after.numbers[0]);
+        self.count_memory(before, after, &tags);
         for tag in &tags {
             let answered = word(after.bytes.lent(), tag.at + 8) & ANSWERED != 0;
             if tag.is_request() && answered {
@@ -109,14 +130,15 @@ impl Reached {
         }
     }
 
-    /// A line for each thing reached, with its count; of virtual offsets, alignments, command lines and
-    /// addresses the count of the rarest.
+    /// A line for each thing reached, with its count; of virtual offsets, stored heaps, alignments,
+    /// command lines and addresses the count of the rarest.
     pub fn print(&self) {
         let alike = |thing: &Thing| {
             let numbers = matches!(thing, Thing::Alignment(_) | Thing::Line(_) | Thing::Address(_));
-            numbers || matches!(thing, Thing::Offset(..))
+            numbers || matches!(thing, Thing::Offset(..) | Thing::Heap(..))
         };
-        for (thing, count) in self.counts.iter().filter(|(thing, _)| !alike(thing)) {
+        let sorted: BTreeMap<_, _> = self.counts.iter().collect();
+        for (thing, count) in sorted.into_iter().filter(|(thing, _)| !alike(thing)) {
             println!("{count:>9}  {thing}");
         }
         let rarest = |things: &mut dyn Iterator<Item = Thing>| {
@@ -124,6 +146,10 @@ impl Reached {
         };
         let offset = rarest(&mut offsets::all());
         println!("{offset:>9}  or more for each kind of virtual offset: on x and y, set, tested and stored");
+        let heap = rarest(&mut heaps::all());
+        println!(
+            "{heap:>9}  or more for each rule of the heap and its blocks: broken and just kept"
+        );
         let alignment = rarest(&mut group::alignments());
         println!("{alignment:>9}  or more for each alignment: powers of two, 0 and 24");
         let line = rarest(&mut LINES.into_iter().map(Thing::Line));
@@ -143,6 +169,7 @@ impl Reached {
         let all = outcomes.chain(tags).chain(lines).chain(addresses);
         let all = all.chain(group::cases()).chain(group::alignments());
         let all = all.chain(kinds::all()).chain(messages::all()).chain(offsets::all());
+        let all = all.chain(memory::all()).chain(heaps::all());
         all.filter(|thing| !self.counts.contains_key(thing)).collect()
     }
 }

@@ -1,0 +1,107 @@
+//! What tags of memory ask and come to.
+
+mod allocate;
+mod handles;
+
+use super::{Reached, Thing};
+use crate::known::{ALLOCATE_MEMORY, MEMORY};
+use crate::memory::{words, Memory, Words};
+use crate::sides::Side;
+use crate::walk::{word, Tag};
+use interface::Span;
+
+const MANY: &str = "more than 32 times in one message";
+const ALL_PLACES: &str = "granted 32 times in one message";
+const KEPT: &str = "granted before a fault";
+const BEHIND: &str = "behind a fault";
+const SHORT: &str = "one byte short";
+const LONG: &str = "granted with a value longer than the request";
+const RESPONSE: &str = "that came as a response";
+const GROUPED: &str = "granted beside a change of the frame buffer";
+
+pub fn all() -> impl Iterator<Item = Thing> {
+    let messages = [MANY, ALL_PLACES, KEPT, BEHIND, SHORT, LONG, RESPONSE, GROUPED];
+    let allocate = messages.into_iter().chain(allocate::kinds());
+    allocate.map(|kind| Thing::Memory("allocate", kind)).chain(handles::all())
+}
+
+/// What the calls of a case have released so far, by place; none where it was given again.
+pub type Released = [Span; 32];
+
+/// The message under way.
+struct Message {
+    memory: Memory,
+    /// Bits of the places that were released, and of those locked while locked.
+    released: u32,
+    locked_twice: u32,
+    asked: u32,
+    granted: u32,
+}
+
+impl Reached {
+    /// Counts the memory tags of a message whose walk meets these tags.
+    pub fn count_memory(&mut self, before: &Side, after: &Side, tags: &[Tag]) {
+        let [outcome, place, ..] = after.numbers;
+        if !matches!(outcome, 0 | 4..=6) || !tags.iter().any(is_memory) {
+            return;
+        }
+        let fault = if outcome == 6 { place as usize } else { usize::MAX };
+        let memory = Memory::of(&before.board);
+        let mut message = Message { memory, released: 0, locked_twice: 0, asked: 0, granted: 0 };
+        for tag in tags.iter().filter(|tag| is_memory(tag)) {
+            self.allocate_if(tag.id == ALLOCATE_MEMORY && !tag.is_request(), RESPONSE);
+            if tag.is_request() && tag.at < fault {
+                self.count_carried_out(&mut message, before, after, tag);
+            }
+            let allocate = tag.id == ALLOCATE_MEMORY && tag.is_request();
+            self.allocate_if(allocate && tag.at > fault && tag.size >= 12, BEHIND);
+            self.allocate_if(allocate && tag.at == fault && tag.size == 11, SHORT);
+        }
+        let is_as_reckoned = message.memory.blocks == after.board.blocks;
+        assert!(is_as_reckoned, "both sides leave blocks that the requests do not come to");
+        self.allocate_if(message.asked > 32, MANY);
+        self.allocate_if(message.granted >= 32, ALL_PLACES);
+        self.allocate_if(message.granted > 0 && outcome != 0, KEPT);
+        let changed = before.board.display != after.board.display;
+        self.allocate_if(message.granted > 0 && changed, GROUPED);
+    }
+
+    fn allocate_if(&mut self, is_kind: bool, kind: &'static str) {
+        if is_kind {
+            self.add(Thing::Memory("allocate", kind));
+        }
+    }
+
+    fn count_carried_out(&mut self, message: &mut Message, before: &Side, after: &Side, tag: &Tag) {
+        let Some(words) = words(tag.id, &before.bytes.lent()[tag.value()]) else { return };
+        let answer = word(after.bytes.lent(), tag.value().start);
+        if tag.id == ALLOCATE_MEMORY {
+            self.count_allocate(message, words, answer);
+            self.allocate_if(answer != 0 && tag.size > 12, LONG);
+        } else {
+            self.count_handle(message, tag.id, words[0]);
+        }
+    }
+
+    /// Counts an allocate and carries it out.
+    fn count_allocate(&mut self, message: &mut Message, words: Words, answer: u32) {
+        let asked = allocate::Asked::of(&message.memory, words);
+        message.asked += 1;
+        if answer == 0 {
+            self.count_refused(&asked);
+            return;
+        }
+        message.granted += 1;
+        message.memory.carry_out(ALLOCATE_MEMORY, words);
+        if let Some(block) = message.memory.block(answer) {
+            let place = answer as usize - 1;
+            self.count_granted(&asked, place, block.span());
+            self.count_given_again(message.released, place, block.span());
+        }
+        message.released &= !(1 << (answer - 1));
+    }
+}
+
+fn is_memory(tag: &Tag) -> bool {
+    MEMORY.iter().any(|known| known.id == tag.id)
+}
