@@ -1,14 +1,14 @@
 //! Random requests: tags, an end word and a good size.
 
+mod draft;
 mod memory;
 
+pub use draft::{padded, Draft};
+
 use crate::known::{self, Known, BUFFER_TAGS, GETS, MEMORY, OUTSIDE_GROUP, SETS, TESTS};
-use crate::memory::Memory;
 use crate::random::Random;
-use crate::requests;
-use crate::walk::{put_word, HEADER, LONGEST, TAG_HEADER};
+use crate::walk::{put_word, LONGEST, TAG_HEADER};
 use interface::Board;
-use std::ops::Range;
 
 /// Which tags a message draws on.
 #[derive(Clone, Copy)]
@@ -27,18 +27,6 @@ enum Group {
     Sets,
     Buffer,
     Any,
-}
-
-pub struct Draft {
-    pub bytes: Vec<u8>,
-    /// Where each tag begins.
-    pub tags: Vec<usize>,
-    /// Where the end word stands.
-    pub end: usize,
-    /// The memory as the tags leave it.
-    pub memory: Memory,
-    /// Whether tags now and then are responses already.
-    answered: bool,
 }
 
 /// A request with words behind the end and bytes behind the size.
@@ -100,58 +88,6 @@ pub fn long_request(random: &mut Random, board: &Board) -> Draft {
 fn any_drawn(random: &mut Random) -> Drawn {
     let kinds = [Group::None, Group::Tests, Group::Others, Group::Sets, Group::Buffer, Group::Any];
     Drawn { group: random.pick(&kinds), memory: random.pick(&[1, 1, 6]) }
-}
-
-impl Draft {
-    fn new(random: &mut Random, board: &Board) -> Draft {
-        let answered = random.one_in(4);
-        let memory = Memory::of(board);
-        Draft { bytes: vec![0; HEADER], tags: Vec::new(), end: 0, memory, answered }
-    }
-
-    /// Adds a tag, where there is room for it and an end word.
-    fn push(&mut self, random: &mut Random, board: &Board, id: u32, size: u32) {
-        if let Some(value) = self.open(random, id, size) {
-            let bytes = &mut self.bytes[value.clone()];
-            requests::fill(random, board, &self.memory, id, bytes);
-            self.foretell(id, value);
-        }
-    }
-
-    /// Adds a tag with a value of random bytes; where that lies.
-    fn open(&mut self, random: &mut Random, id: u32, size: u32) -> Option<Range<usize>> {
-        let value = self.bytes.len() + TAG_HEADER;
-        if value + padded(size) + 4 > LONGEST {
-            return None;
-        }
-        self.tags.push(self.bytes.len());
-        let low = if random.one_in(5) { random.number() & 0x7FFF_FFFF } else { 0 };
-        let bit_31 = self.answered && random.one_in(3);
-        for word in [id, size, low | u32::from(bit_31) << 31] {
-            self.bytes.extend_from_slice(&word.to_le_bytes());
-        }
-        self.bytes.extend_from_slice(&random.bytes(padded(size)));
-        Some(value..value + size as usize)
-    }
-
-    /// The end word, the size word, and what lies behind them.
-    fn close(&mut self, random: &mut Random) {
-        self.end = self.bytes.len();
-        self.bytes.extend_from_slice(&[0; 4]);
-        let left = (LONGEST.saturating_sub(self.bytes.len()) / 4) as u32;
-        let words = if random.one_in(2) { random.below(5).min(left) } else { 0 };
-        self.bytes.extend_from_slice(&random.bytes(4 * words as usize));
-        let size = self.bytes.len() as u32;
-        put_word(&mut self.bytes, 0, size);
-        if random.one_in(3) {
-            let behind = random.below(24) as usize;
-            self.bytes.extend_from_slice(&random.bytes(behind));
-        }
-    }
-}
-
-pub fn padded(size: u32) -> usize {
-    size.next_multiple_of(4) as usize
 }
 
 /// Tags of one value size in a row, of one id or all of them behind the known ones, and now and then

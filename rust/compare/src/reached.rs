@@ -33,6 +33,8 @@ pub enum Thing {
     Heap(&'static str, &'static str),
     /// An alignment that was decided on.
     Alignment(u32),
+    /// An alignment that decided whether a block was granted.
+    BlockAlignment(u32),
     /// A command line of this length answered.
     Line(u32),
     /// An address, modulo 16, at which a message was served.
@@ -51,6 +53,7 @@ impl fmt::Display for Thing {
             Thing::Memory(tag, case) => write!(to, "memory: {tag} {case}"),
             Thing::Heap(taken, name) => write!(to, "record {taken} with {name}"),
             Thing::Alignment(alignment) => write!(to, "group with alignment {alignment}"),
+            Thing::BlockAlignment(alignment) => write!(to, "block with alignment {alignment}"),
             Thing::Line(length) => write!(to, "command line of {length} answered"),
             Thing::Address(rest) => write!(to, "message at an address of {rest} modulo 16"),
             Thing::Kind(kind) => write!(to, "{kind}"),
@@ -133,29 +136,22 @@ impl Reached {
     /// A line for each thing reached, with its count; of virtual offsets, stored heaps, alignments,
     /// command lines and addresses the count of the rarest.
     pub fn print(&self) {
-        let alike = |thing: &Thing| {
-            let numbers = matches!(thing, Thing::Alignment(_) | Thing::Line(_) | Thing::Address(_));
-            numbers || matches!(thing, Thing::Offset(..) | Thing::Heap(..))
-        };
         let sorted: BTreeMap<_, _> = self.counts.iter().collect();
-        for (thing, count) in sorted.into_iter().filter(|(thing, _)| !alike(thing)) {
+        for (thing, count) in sorted.into_iter().filter(|(thing, _)| !is_alike(thing)) {
             println!("{count:>9}  {thing}");
         }
-        let rarest = |things: &mut dyn Iterator<Item = Thing>| {
-            things.filter_map(|thing| self.counts.get(&thing)).min().map_or(0, |least| *least)
+        let rarest = |of: &str, things: &mut dyn Iterator<Item = Thing>| {
+            let least = things.filter_map(|thing| self.counts.get(&thing)).min();
+            println!("{:>9}  or more for each {of}", least.unwrap_or(&0));
         };
-        let offset = rarest(&mut offsets::all());
-        println!("{offset:>9}  or more for each kind of virtual offset: on x and y, set, tested and stored");
-        let heap = rarest(&mut heaps::all());
-        println!(
-            "{heap:>9}  or more for each rule of the heap and its blocks: broken and just kept"
-        );
-        let alignment = rarest(&mut group::alignments());
-        println!("{alignment:>9}  or more for each alignment: powers of two, 0 and 24");
-        let line = rarest(&mut LINES.into_iter().map(Thing::Line));
-        println!("{line:>9}  or more for each command line of {LINES:?} characters");
-        let address = rarest(&mut (0..16).map(Thing::Address));
-        println!("{address:>9}  or more for each address modulo 16");
+        let offset = "kind of virtual offset: on x and y, set, tested and stored";
+        rarest(offset, &mut offsets::all());
+        rarest("rule of the heap and its blocks: broken and just kept", &mut heaps::all());
+        rarest("alignment: powers of two, 0 and 24", &mut group::alignments());
+        rarest("alignment of a block: powers of two and no powers", &mut memory::alignments());
+        let line = format!("command line of {LINES:?} characters");
+        rarest(&line, &mut LINES.into_iter().map(Thing::Line));
+        rarest("address modulo 16", &mut (0..16).map(Thing::Address));
     }
 
     /// The things never reached.
@@ -169,7 +165,14 @@ impl Reached {
         let all = outcomes.chain(tags).chain(lines).chain(addresses);
         let all = all.chain(group::cases()).chain(group::alignments());
         let all = all.chain(kinds::all()).chain(messages::all()).chain(offsets::all());
-        let all = all.chain(memory::all()).chain(heaps::all());
+        let all = all.chain(memory::all()).chain(memory::alignments()).chain(heaps::all());
         all.filter(|thing| !self.counts.contains_key(thing)).collect()
     }
+}
+
+/// Whether it is one of many alike, of which the rarest is printed.
+fn is_alike(thing: &Thing) -> bool {
+    let stored = matches!(thing, Thing::Offset(..) | Thing::Heap(..));
+    let aligned = matches!(thing, Thing::Alignment(_) | Thing::BlockAlignment(_));
+    stored || aligned || matches!(thing, Thing::Line(_) | Thing::Address(_))
 }

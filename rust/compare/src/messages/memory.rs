@@ -2,11 +2,9 @@
 
 use super::{value_size, Draft};
 use crate::known::{self, ALLOCATE_MEMORY, LOCK_MEMORY, MEMORY, RELEASE_MEMORY, UNLOCK_MEMORY};
-use crate::memory::{words, Words};
+use crate::memory::Words;
 use crate::random::Random;
 use crate::requests::memory;
-use crate::walk::{word, ANSWERED};
-use std::ops::Range;
 
 impl Draft {
     pub fn push_memory_run(&mut self, random: &mut Random) {
@@ -90,14 +88,5 @@ impl Draft {
         let words = [block.size.wrapping_add(by), block.alignment, block.flags];
         let again = self.push_memory(random, ALLOCATE_MEMORY, Some(words));
         self.push_handle(random, LOCK_MEMORY, again);
-    }
-
-    /// Carries out the tag just added, where it is one of memory and a request; its answer.
-    pub fn foretell(&mut self, id: u32, value: Range<usize>) -> u32 {
-        let is_request = word(&self.bytes, value.start - 4) & ANSWERED == 0;
-        match words(id, &self.bytes[value]) {
-            Some(words) if is_request => self.memory.carry_out(id, words),
-            _ => 0,
-        }
     }
 }

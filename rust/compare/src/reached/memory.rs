@@ -3,6 +3,8 @@
 mod allocate;
 mod handles;
 
+pub use allocate::alignments;
+
 use super::{Reached, Thing};
 use crate::known::{ALLOCATE_MEMORY, MEMORY};
 use crate::memory::{words, Memory, Words};

@@ -1,6 +1,6 @@
 //! The cases of an allocate.
 
-use super::super::Reached;
+use super::super::{Reached, Thing};
 use crate::memory::{align, lowest, Gap, Memory, Words};
 use interface::{Block, Span};
 
@@ -99,6 +99,7 @@ const GRANTED: [Granted; 17] = [
     ("granted 2^31 bytes or more", |asked, _| asked.size >= 1 << 31),
 ];
 
+const NO_POWERS: [u32; 4] = [0, 3, 24, u32::MAX];
 const MOST_BYTES: &str = "of 0xFFFFFFFF bytes";
 const MOST_ALIGNED: &str = "at an alignment of 2^31";
 const PLACE_OF_MESSAGE: &str = "granted a place released in the message";
@@ -111,6 +112,11 @@ pub fn kinds() -> impl Iterator<Item = &'static str> {
     let refused = REFUSED.iter().chain(&NO_GAP).map(|(kind, _)| *kind);
     let granted = GRANTED.iter().map(|(kind, _)| *kind);
     asked.into_iter().chain(again).chain(refused).chain(granted)
+}
+
+/// Each power of two, and some that are refused.
+pub fn alignments() -> impl Iterator<Item = Thing> {
+    (0..32).map(|bit| 1 << bit).chain(NO_POWERS).map(Thing::BlockAlignment)
 }
 
 fn length(gap: &Gap) -> u64 {
@@ -180,6 +186,10 @@ impl Reached {
     fn count_asked(&mut self, asked: &Asked) {
         self.allocate_if(asked.size == u32::MAX, MOST_BYTES);
         self.allocate_if(asked.alignment == 1 << 31, MOST_ALIGNED);
+        let is_listed = asked.one_bit() || NO_POWERS.contains(&asked.alignment);
+        if is_listed && asked.fits_at(1) {
+            self.add(Thing::BlockAlignment(asked.alignment));
+        }
     }
 
     /// Counts a place or bytes that were released; those of the message are given by their bits.
