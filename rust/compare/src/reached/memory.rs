@@ -7,9 +7,10 @@ pub use allocate::alignments;
 
 use super::{Reached, Thing};
 use crate::known::{ALLOCATE_MEMORY, MEMORY};
-use crate::memory::{words, Memory, Words};
+use crate::memory::{words, Memory};
 use crate::sides::Side;
 use crate::walk::{word, Tag};
+use allocate::Asked;
 use interface::Span;
 
 const MANY: &str = "more than 32 times in one message";
@@ -30,12 +31,14 @@ pub fn all() -> impl Iterator<Item = Thing> {
 /// What the calls of a case have released so far, by place; none where it was given again.
 pub type Released = [Span; 32];
 
-/// The message under way.
+/// The message under way, up to a tag.
 struct Message {
     memory: Memory,
-    /// Bits of the places that were released, and of those locked while locked.
+    /// Bits of the places that it released.
     released: u32,
+    /// Bits of the places whose blocks it locked while they were locked already.
     locked_twice: u32,
+    /// How many allocates it has, and how many of them were granted.
     asked: u32,
     granted: u32,
 }
@@ -60,7 +63,7 @@ impl Reached {
             self.allocate_if(allocate && tag.at == fault && tag.size == 11, SHORT);
         }
         let is_as_reckoned = message.memory.blocks == after.board.blocks;
-        assert!(is_as_reckoned, "both sides leave blocks that the requests do not come to");
+        assert!(is_as_reckoned, "both sides leave other blocks than were reckoned");
         self.allocate_if(message.asked > 32, MANY);
         self.allocate_if(message.granted >= 32, ALL_PLACES);
         self.allocate_if(message.granted > 0 && outcome != 0, KEPT);
@@ -74,33 +77,29 @@ impl Reached {
         }
     }
 
+    /// Counts a tag and carries it out.
     fn count_carried_out(&mut self, message: &mut Message, before: &Side, after: &Side, tag: &Tag) {
         let Some(words) = words(tag.id, &before.bytes.lent()[tag.value()]) else { return };
         let answer = word(after.bytes.lent(), tag.value().start);
-        if tag.id == ALLOCATE_MEMORY {
-            self.count_allocate(message, words, answer);
+        let allocate = tag.id == ALLOCATE_MEMORY;
+        let asked = allocate.then(|| Asked::of(&message.memory, words));
+        self.count_handle(message, tag.id, words[0]);
+        let reckoned = message.memory.carry_out(tag.id, words);
+        assert!(reckoned == answer, "both sides answer {answer}, where {reckoned} was reckoned");
+        if let Some(asked) = asked {
+            self.count_allocate(message, &asked, answer);
             self.allocate_if(answer != 0 && tag.size > 12, LONG);
-        } else {
-            self.count_handle(message, tag.id, words[0]);
         }
     }
 
-    /// Counts an allocate and carries it out.
-    fn count_allocate(&mut self, message: &mut Message, words: Words, answer: u32) {
-        let asked = allocate::Asked::of(&message.memory, words);
+    fn count_allocate(&mut self, message: &mut Message, asked: &Asked, answer: u32) {
         message.asked += 1;
-        if answer == 0 {
-            self.count_refused(&asked);
-            return;
-        }
+        let Some(block) = message.memory.block(answer) else { return self.count_refused(asked) };
         message.granted += 1;
-        message.memory.carry_out(ALLOCATE_MEMORY, words);
-        if let Some(block) = message.memory.block(answer) {
-            let place = answer as usize - 1;
-            self.count_granted(&asked, place, block.span());
-            self.count_given_again(message.released, place, block.span());
-        }
-        message.released &= !(1 << (answer - 1));
+        let place = answer as usize - 1;
+        self.count_granted(asked, place, block.span());
+        self.count_given_again(message.released, place, block.span());
+        message.released &= !(1 << place);
     }
 }
 

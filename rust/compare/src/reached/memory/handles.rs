@@ -23,7 +23,7 @@ const KINDS: [Kind; 7] = [
     ("of handle 33", |_, handle| handle == 33),
 ];
 
-const LOCKED_TWICE: &str = "of a block locked twice in the message";
+const LOCKED_TWICE: &str = "of a block locked again in the message";
 
 const TAGS: [(u32, &str); 3] =
     [(LOCK_MEMORY, "lock"), (UNLOCK_MEMORY, "unlock"), (RELEASE_MEMORY, "release")];
@@ -34,7 +34,7 @@ pub fn all() -> impl Iterator<Item = Thing> {
 }
 
 impl Reached {
-    /// Counts a tag that names a block by its handle, and carries it out.
+    /// Counts a tag that names a block by its handle.
     pub(super) fn count_handle(&mut self, message: &mut Message, id: u32, handle: u32) {
         let Some((_, tag)) = TAGS.into_iter().find(|(known, _)| *known == id) else { return };
         for (kind, holds) in KINDS {
@@ -42,25 +42,19 @@ impl Reached {
                 self.add(Thing::Memory(tag, kind));
             }
         }
-        if let Some(block) = message.memory.block(handle).copied() {
-            let place = handle as usize - 1;
-            let bit = 1 << place;
-            match id {
-                LOCK_MEMORY if block.locked => message.locked_twice |= bit,
-                LOCK_MEMORY => {}
-                UNLOCK_MEMORY if message.locked_twice & bit != 0 => {
-                    self.add(Thing::Memory(tag, LOCKED_TWICE));
-                }
-                UNLOCK_MEMORY => {}
-                _ => {
-                    message.released |= bit;
-                    self.released[place] = block.span();
-                }
-            }
-            if id != LOCK_MEMORY {
-                message.locked_twice &= !bit;
-            }
+        let Some(block) = message.memory.block(handle) else { return };
+        let place = handle as usize - 1;
+        let bit = 1 << place;
+        if id == LOCK_MEMORY {
+            message.locked_twice |= if block.locked { bit } else { 0 };
+            return;
         }
-        message.memory.carry_out(id, [handle, 0, 0]);
+        if id == RELEASE_MEMORY {
+            message.released |= bit;
+            self.released[place] = block.span();
+        } else if message.locked_twice & bit != 0 {
+            self.add(Thing::Memory(tag, LOCKED_TWICE));
+        }
+        message.locked_twice &= !bit;
     }
 }
