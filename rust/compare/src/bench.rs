@@ -1,7 +1,7 @@
 //! The bench record, as far as the rules name it.
 
 use crate::panics;
-use interface::{Board, Offset, Settings, Size, Span, State};
+use interface::{Block, Board, Offset, Settings, Size, Span, State};
 
 /// Whether the record is valid, has what the rules name, and shows each rule.
 pub fn is_bench(board: &Board) -> bool {
@@ -15,6 +15,8 @@ pub fn is_bench(board: &Board) -> bool {
         && board.display.region == Span { base: 0x3C00_0000, size: 8_388_608 }
         && board.display.settings == settings
         && board.display.buffer == Span::NONE
+        && board.heap == Span { base: 0x3C80_0000, size: 0x0040_0000 }
+        && board.blocks == [Block::FREE; 32]
         && clock.state == State { exists: true, on: true }
         && (clock.min, clock.rate, clock.max) == (600_000_000, 600_000_000, 1_500_000_000)
         && shows_each_rule(board)

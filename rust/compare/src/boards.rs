@@ -1,11 +1,15 @@
 //! Random board records that are valid.
 
+pub mod heaps;
+
 use crate::random::Random;
 use interface::*;
 
 pub fn valid(random: &mut Random) -> Board {
     let mut line = [0; 256];
     line.copy_from_slice(&random.bytes(256));
+    let display = display(random);
+    let heap = heaps::heap(random, &display.region);
     Board {
         facts: facts(random),
         line,
@@ -13,7 +17,9 @@ pub fn valid(random: &mut Random) -> Board {
         clocks: std::array::from_fn(|_| clock(random)),
         voltages: std::array::from_fn(|_| voltage(random)),
         temperature: Temperature { current: random.number(), max: random.number() },
-        display: display(random),
+        display,
+        heap,
+        blocks: heaps::blocks(random, &heap),
     }
 }
 

@@ -16,7 +16,7 @@ const MOST_CLEARED: usize = 40;
 
 pub fn generate(random: &mut Random, bench: &Board) -> Case {
     let mut board = if random.one_in(8) { *bench } else { boards::valid(random) };
-    if random.one_in(8) {
+    if random.one_in(6) {
         spoiled::spoil(random, &mut board);
     }
     let address = if random.one_in(2) { 0 } else { random.below(16) as usize };
@@ -40,8 +40,10 @@ fn message(random: &mut Random, board: &Board) -> Draft {
 
 /// One to three messages in a row on the record that the one before left.
 fn serving(random: &mut Random, case: &mut Case) {
+    let mut board = case.board;
     for _ in 0..=random.pick(&[0, 0, 1, 2]) {
-        let mut draft = message(random, &case.board);
+        let mut draft = message(random, &board);
+        board.blocks = draft.memory.blocks;
         if random.one_in(3) {
             damage::damage(random, &mut draft);
         }

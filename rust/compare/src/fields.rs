@@ -43,7 +43,7 @@ type Visit<'v> = &'v mut dyn FnMut(Name, Field);
 
 /// The names and values of all fields, always in the same order.
 pub fn values(board: &Board) -> Vec<(Name, u64)> {
-    let mut values = Vec::with_capacity(512);
+    let mut values = Vec::with_capacity(640);
     visit(&mut board.clone(), &mut |name, field| values.push((name, field.value())));
     values
 }
@@ -63,6 +63,7 @@ fn visit(board: &mut Board, see: Visit) {
     visit_facts(board, see);
     visit_items(board, see);
     visit_display(board, see);
+    visit_memory(board, see);
 }
 
 fn visit_span(span: &mut Span, whole: &'static str, see: Visit) {
@@ -133,4 +134,16 @@ fn visit_display(board: &mut Board, see: Visit) {
         see(("display.settings", None, part), Field::Word(word));
     }
     visit_span(&mut display.buffer, "display.buffer", see);
+}
+
+fn visit_memory(board: &mut Board, see: Visit) {
+    visit_span(&mut board.heap, "heap", see);
+    for (index, block) in board.blocks.iter_mut().enumerate() {
+        see(("blocks", Some(index), ".taken"), Field::Bit(&mut block.taken));
+        see(("blocks", Some(index), ".locked"), Field::Bit(&mut block.locked));
+        see(("blocks", Some(index), ".base"), Field::Word(&mut block.base));
+        see(("blocks", Some(index), ".size"), Field::Word(&mut block.size));
+        see(("blocks", Some(index), ".alignment"), Field::Word(&mut block.alignment));
+        see(("blocks", Some(index), ".flags"), Field::Word(&mut block.flags));
+    }
 }

@@ -14,6 +14,10 @@ pub const COMMAND_LINE: u32 = 0x0005_0001;
 pub const SET_CLOCK_RATE: u32 = 0x0003_8002;
 pub const ALLOCATE: u32 = 0x0004_0001;
 pub const RELEASE: u32 = 0x0004_8001;
+pub const ALLOCATE_MEMORY: u32 = 0x0003_000C;
+pub const LOCK_MEMORY: u32 = 0x0003_000D;
+pub const UNLOCK_MEMORY: u32 = 0x0003_000E;
+pub const RELEASE_MEMORY: u32 = 0x0003_000F;
 
 const fn tag(id: u32, request: u32, answer: u32) -> Known {
     Known { id, request, answer }
@@ -44,6 +48,13 @@ pub const OUTSIDE_GROUP: [Known; 24] = [
     tag(0x0003_0008, 4, 8),
     tag(0x0003_0006, 4, 8),
     tag(0x0003_000A, 4, 8),
+];
+
+pub const MEMORY: [Known; 4] = [
+    tag(ALLOCATE_MEMORY, 12, 4),
+    tag(LOCK_MEMORY, 4, 4),
+    tag(UNLOCK_MEMORY, 4, 4),
+    tag(RELEASE_MEMORY, 4, 4),
 ];
 
 pub const GETS: [Known; 7] = [
@@ -83,14 +94,14 @@ const LEFT_OUT: [u32; 30] = [
     0x0001_0007,
     0x0002_8002,
     0x0003_0009,
-    0x0003_000C,
-    0x0003_000D,
-    0x0003_000E,
-    0x0003_000F,
+    0x0003_000B,
     0x0003_0010,
     0x0003_0014,
     0x0003_0020,
     0x0003_8009,
+    0x0003_800C,
+    0x0003_800D,
+    0x0003_800F,
     0x0004_0002,
     0x0004_000A,
     0x0004_000B,
@@ -114,7 +125,8 @@ const LEFT_OUT: [u32; 30] = [
 pub const BEYOND: u32 = 0x0007_0000;
 
 pub fn all() -> impl Iterator<Item = &'static Known> {
-    OUTSIDE_GROUP.iter().chain(&GETS).chain(&TESTS).chain(&SETS).chain(&BUFFER_TAGS)
+    let group = GETS.iter().chain(&TESTS).chain(&SETS).chain(&BUFFER_TAGS);
+    OUTSIDE_GROUP.iter().chain(&MEMORY).chain(group)
 }
 
 pub fn of(id: u32) -> Option<&'static Known> {

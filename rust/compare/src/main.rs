@@ -10,6 +10,7 @@ mod damage;
 mod fields;
 mod guarded;
 mod known;
+mod memory;
 mod messages;
 mod options;
 mod panics;
@@ -44,7 +45,7 @@ fn main() -> ExitCode {
         println!("the bench record is not the one that the rules name, or not valid: {bench:?}");
         return ExitCode::FAILURE;
     }
-    let mut reached = Reached::default();
+    let mut reached = Reached::new();
     if !compare(&options, &bench, &mut reached) {
         return ExitCode::FAILURE;
     }

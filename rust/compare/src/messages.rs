@@ -1,30 +1,32 @@
 //! Random requests: tags, an end word and a good size.
 
-use crate::known::{self, Known, BUFFER_TAGS, GETS, OUTSIDE_GROUP, SETS, TESTS};
+mod draft;
+mod memory;
+
+pub use draft::{padded, Draft};
+
+use crate::known::{self, Known, BUFFER_TAGS, GETS, MEMORY, OUTSIDE_GROUP, SETS, TESTS};
 use crate::random::Random;
-use crate::requests;
-use crate::walk::{put_word, HEADER, LONGEST, TAG_HEADER};
+use crate::walk::{put_word, LONGEST, TAG_HEADER};
 use interface::Board;
+
+/// Which tags a message draws on.
+#[derive(Clone, Copy)]
+struct Drawn {
+    group: Group,
+    /// How many of 8 tags outside the group are of memory.
+    memory: u32,
+}
 
 /// Which frame buffer tags a message draws on.
 #[derive(Clone, Copy)]
-pub enum Group {
+enum Group {
     None,
     Tests,
     Others,
     Sets,
     Buffer,
     Any,
-}
-
-pub struct Draft {
-    pub bytes: Vec<u8>,
-    /// Where each tag begins.
-    pub tags: Vec<usize>,
-    /// Where the end word stands.
-    pub end: usize,
-    /// Whether tags now and then are responses already.
-    answered: bool,
 }
 
 /// A request with words behind the end and bytes behind the size.
@@ -35,17 +37,21 @@ pub fn request(random: &mut Random, board: &Board) -> Draft {
         80..=97 => random.between(5, 14),
         _ => random.between(10, 40),
     };
-    let group = any_group(random);
-    let mut draft = Draft::new(random);
+    let drawn = any_drawn(random);
+    let mut draft = Draft::new(random, board);
     let run = random.one_in(10).then(|| random.below(count + 1));
+    let memory_run = random.one_in(12).then(|| random.below(count + 1));
     for index in 0..=count {
         if Some(index) == run {
             let most = random.pick(&[8, 12, 60, 200]);
             let length = random.between(2, most);
-            push_run(random, board, &mut draft, group, length);
+            push_run(random, board, &mut draft, drawn, length);
+        }
+        if Some(index) == memory_run {
+            draft.push_memory_run(random);
         }
         if index < count {
-            let tag = tag(random, board, group);
+            let tag = tag(random, board, drawn);
             let size = value_size(random, tag);
             draft.push(random, board, tag.id, size);
         }
@@ -60,14 +66,14 @@ pub fn request(random: &mut Random, board: &Board) -> Draft {
 /// A request with as many tags as fit, or nearly.
 pub fn long_request(random: &mut Random, board: &Board) -> Draft {
     let count = random.pick(&[5_459, 5_460, 5_461, 2_000]);
-    let group = any_group(random);
-    let mut draft = Draft::new(random);
+    let drawn = any_drawn(random);
+    let mut draft = Draft::new(random, board);
     if random.one_in(3) {
-        push_run(random, board, &mut draft, group, count);
+        push_run(random, board, &mut draft, drawn, count);
     } else {
         let empty = random.below(3) > 0;
         for _ in 0..count {
-            let tag = tag(random, board, group);
+            let tag = tag(random, board, drawn);
             let size = if empty { 0 } else { tag.request };
             draft.push(random, board, tag.id, size);
         }
@@ -79,60 +85,18 @@ pub fn long_request(random: &mut Random, board: &Board) -> Draft {
     draft
 }
 
-fn any_group(random: &mut Random) -> Group {
+fn any_drawn(random: &mut Random) -> Drawn {
     let kinds = [Group::None, Group::Tests, Group::Others, Group::Sets, Group::Buffer, Group::Any];
-    random.pick(&kinds)
-}
-
-impl Draft {
-    fn new(random: &mut Random) -> Draft {
-        let answered = random.one_in(4);
-        Draft { bytes: vec![0; HEADER], tags: Vec::new(), end: 0, answered }
-    }
-
-    /// Adds a tag, where there is room for it and an end word.
-    fn push(&mut self, random: &mut Random, board: &Board, id: u32, size: u32) {
-        let value = self.bytes.len() + TAG_HEADER;
-        if value + padded(size) + 4 > LONGEST {
-            return;
-        }
-        self.tags.push(self.bytes.len());
-        let low = if random.one_in(5) { random.number() & 0x7FFF_FFFF } else { 0 };
-        let bit_31 = self.answered && random.one_in(3);
-        for word in [id, size, low | u32::from(bit_31) << 31] {
-            self.bytes.extend_from_slice(&word.to_le_bytes());
-        }
-        self.bytes.extend_from_slice(&random.bytes(padded(size)));
-        requests::fill(random, board, id, &mut self.bytes[value..value + size as usize]);
-    }
-
-    /// The end word, the size word, and what lies behind them.
-    fn close(&mut self, random: &mut Random) {
-        self.end = self.bytes.len();
-        self.bytes.extend_from_slice(&[0; 4]);
-        let left = (LONGEST.saturating_sub(self.bytes.len()) / 4) as u32;
-        let words = if random.one_in(2) { random.below(5).min(left) } else { 0 };
-        self.bytes.extend_from_slice(&random.bytes(4 * words as usize));
-        let size = self.bytes.len() as u32;
-        put_word(&mut self.bytes, 0, size);
-        if random.one_in(3) {
-            let behind = random.below(24) as usize;
-            self.bytes.extend_from_slice(&random.bytes(behind));
-        }
-    }
-}
-
-pub fn padded(size: u32) -> usize {
-    size.next_multiple_of(4) as usize
+    Drawn { group: random.pick(&kinds), memory: random.pick(&[1, 1, 6]) }
 }
 
 /// Tags of one value size in a row, of one id or all of them behind the known ones, and now and then
 /// another tag or another size in their midst.
-fn push_run(random: &mut Random, board: &Board, draft: &mut Draft, group: Group, length: u32) {
+fn push_run(random: &mut Random, board: &Board, draft: &mut Draft, drawn: Drawn, length: u32) {
     let beyond = random.between(known::BEYOND, u32::MAX);
     let (id, size) = match random.below(4) {
         0 => {
-            let tag = tag(random, board, group);
+            let tag = tag(random, board, drawn);
             (tag.id, value_size(random, tag))
         }
         1 => (known::stranger(random), random.below(20)),
@@ -142,7 +106,7 @@ fn push_run(random: &mut Random, board: &Board, draft: &mut Draft, group: Group,
     let other = random.one_in(2).then(|| random.below(length));
     for index in 0..length {
         if Some(index) == other {
-            let tag = tag(random, board, group);
+            let tag = tag(random, board, drawn);
             let id = if random.one_in(2) { tag.id } else { id };
             let size = value_size(random, tag);
             draft.push(random, board, id, size);
@@ -177,7 +141,15 @@ fn stretch(random: &mut Random, draft: &mut Draft) {
     }
 }
 
-fn tag(random: &mut Random, board: &Board, group: Group) -> Known {
+fn outside_group(random: &mut Random, drawn: Drawn) -> Known {
+    if random.below(8) < drawn.memory {
+        random.pick(&MEMORY)
+    } else {
+        random.pick(&OUTSIDE_GROUP)
+    }
+}
+
+fn tag(random: &mut Random, board: &Board, drawn: Drawn) -> Known {
     match random.below(12) {
         0 => {
             let id = known::stranger(random);
@@ -187,11 +159,11 @@ fn tag(random: &mut Random, board: &Board, group: Group) -> Known {
             let answer = board.facts.characters.min(256);
             return Known { id: known::COMMAND_LINE, request: 0, answer };
         }
-        2..=5 => return random.pick(&OUTSIDE_GROUP),
+        2..=5 => return outside_group(random, drawn),
         _ => {}
     }
-    match (group, random.below(8)) {
-        (Group::None, _) => random.pick(&OUTSIDE_GROUP),
+    match (drawn.group, random.below(8)) {
+        (Group::None, _) => outside_group(random, drawn),
         (Group::Tests, _) | (Group::Any, 0..=1) => random.pick(&TESTS),
         (Group::Buffer, 0..=3) | (Group::Buffer | Group::Others | Group::Any, 7) => {
             random.pick(&BUFFER_TAGS)

@@ -1,15 +1,21 @@
 //! Random request words that a tag's id makes sense of.
 
+pub mod memory;
+
 use crate::boards::{last_offset, side};
-use crate::known::SET_CLOCK_RATE;
+use crate::known::{MEMORY, SET_CLOCK_RATE};
+use crate::memory::Memory;
 use crate::random::Random;
 use crate::walk::put_word;
 use interface::{Board, Settings};
 
 /// Writes them over a value of random bytes.
-pub fn fill(random: &mut Random, board: &Board, id: u32, value: &mut [u8]) {
+pub fn fill(random: &mut Random, board: &Board, held: &Memory, id: u32, value: &mut [u8]) {
     if random.one_in(40) || value.len() < 4 {
         return;
+    }
+    if MEMORY.iter().any(|known| known.id == id) {
+        return memory::put(memory::words(random, held, id), value);
     }
     let (first, second) = match id >> 16 {
         0x0002 => (item(random, 12), state(random)),

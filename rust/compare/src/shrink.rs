@@ -72,17 +72,26 @@ impl Shrinker<'_> {
 
     fn plainer_board(&mut self) {
         let bench = *self.bench;
-        let parts: [fn(&mut Board, &Board); 7] = [
+        let parts: [fn(&mut Board, &Board); 9] = [
             |board, bench| *board = *bench,
             |board, bench| board.facts = bench.facts,
             |board, bench| board.line = bench.line,
             |board, bench| board.devices = bench.devices,
             |board, bench| board.clocks = bench.clocks,
             |board, bench| board.voltages = bench.voltages,
+            // Each of the two alone may lay the heap over the region.
+            |board, bench| {
+                (board.display, board.heap, board.blocks) =
+                    (bench.display, bench.heap, bench.blocks);
+            },
             |board, bench| board.display = bench.display,
+            |board, bench| (board.heap, board.blocks) = (bench.heap, bench.blocks),
         ];
         for part in parts {
             self.attempt(|case| part(&mut case.board, &bench));
+        }
+        for place in 0..bench.blocks.len() {
+            self.attempt(|case| case.board.blocks[place] = bench.blocks[place]);
         }
         for (index, (_, plain)) in fields::values(&bench).into_iter().enumerate() {
             let (_, now) = fields::values(&self.case.board)[index];

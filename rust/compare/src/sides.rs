@@ -170,6 +170,9 @@ pub struct Disagreement {
 pub fn run(case: &Case, mut reached: Option<&mut Reached>) -> Option<Disagreement> {
     let mut library = Side::new(case);
     let mut rules = Side::new(case);
+    if let Some(reached) = reached.as_deref_mut() {
+        reached.start_case();
+    }
     for (index, call) in case.calls.iter().enumerate() {
         let before = (reached.is_some() && matches!(call, Call::Serve)).then(|| rules.clone());
         library.make(&LIBRARY, call);

@@ -1,5 +1,7 @@
 //! Random board records with a rule broken.
 
+mod memory;
+
 use crate::boards::need;
 use crate::fields;
 use crate::random::Random;
@@ -8,11 +10,15 @@ use interface::*;
 
 /// Breaks a rule of a valid record, or changes fields at random.
 pub fn spoil(random: &mut Random, board: &mut Board) {
-    match random.below(8) {
+    match random.below(12) {
         0 => spoil_facts(random, &mut board.facts),
         1 | 2 => spoil_items(random, board),
         3 | 4 => spoil_settings(random, &mut board.display),
-        5 | 6 => spoil_buffer(random, &mut board.display),
+        5 | 6 => {
+            spoil_buffer(random, &mut board.display);
+            memory::clear_region(random, board);
+        }
+        7..=10 => memory::spoil(random, board),
         _ => {
             let count = fields::values(board).len() as u32;
             for _ in 0..=random.below(3) {
