@@ -53,11 +53,11 @@ use Rattle.demands.specs.Terms.{tagOf, trailOf, answersOf}
 abbrev twoBlocks : List ℕ
 twoBlocks =
     wordBytes (
-      80 ∷ 0
-      ∷ 0x0003000c ∷ 12 ∷ 0 ∷ 4096 ∷ 4096 ∷ 7
-      ∷ 0x0003000c ∷ 12 ∷ 0 ∷ 16 ∷ 16 ∷ 0
-      ∷ 0x0003000d ∷ 8 ∷ 0 ∷ 1 ∷ 9
-      ∷ 0 ∷ []
+    80 ∷ 0
+    ∷ 0x0003000c ∷ 12 ∷ 0 ∷ 4096 ∷ 4096 ∷ 7
+    ∷ 0x0003000c ∷ 12 ∷ 0 ∷ 16 ∷ 16 ∷ 0
+    ∷ 0x0003000d ∷ 8 ∷ 0 ∷ 1 ∷ 9
+    ∷ 0 ∷ []
     )
 
 blocks-done : reply bench twoBlocks .answer .outcome ≡ done
@@ -104,11 +104,11 @@ blocks-read = reads bench twoBlocks (inl blocks-done)
 abbrev blocksLonger : List ℕ
 blocksLonger =
     wordBytes (
-      92 ∷ 0
-      ∷ 0x0003000c ∷ 16 ∷ 0 ∷ 4096 ∷ 4096 ∷ 7 ∷ 5
-      ∷ 0x0003000c ∷ 16 ∷ 0 ∷ 16 ∷ 16 ∷ 0 ∷ 5
-      ∷ 0x0003000d ∷ 12 ∷ 0 ∷ 1 ∷ 5 ∷ 5
-      ∷ 0 ∷ []
+    92 ∷ 0
+    ∷ 0x0003000c ∷ 16 ∷ 0 ∷ 4096 ∷ 4096 ∷ 7 ∷ 5
+    ∷ 0x0003000c ∷ 16 ∷ 0 ∷ 16 ∷ 16 ∷ 0 ∷ 5
+    ∷ 0x0003000d ∷ 12 ∷ 0 ∷ 1 ∷ 5 ∷ 5
+    ∷ 0 ∷ []
     )
 
 blocks-longer-done : reply bench blocksLonger .answer .outcome ≡ done
@@ -208,3 +208,24 @@ bench-without = record { places = refl; all-free = all-free-places 32 }
 
 pub run-counted : held (lastBoard bench run .blocks) + releasedSoFar bench run ≡ grantedSoFar bench run
 run-counted = bytes-held bench bench-without run
+
+-- 4,096 + 16 + 64 bytes were granted, 4,096 released, and 80 are held
+pub run-granted : grantedSoFar bench run ≡ 4176
+unfolding reply served opened goodSize valid validFacts validState validDevice validClock validVoltage validBuffer validDisplay validMemory validHeap validBlock disjoint supported possible sides depths offsets pitch need bench numberAt trail walkFrom step overruns tagAt requestOf requestBy requestBytes rowOf table outsideTags groupTags groupOf decided nthWord turnOf outsideAnswer outsideAfter oneBit onesIn aligned lowest inside apart clearOf freeHandle fits lowestAddress grants allocation placeOf handleAfter handleValue
+run-granted = refl
+
+pub run-released : releasedSoFar bench run ≡ 4096
+unfolding reply served opened goodSize valid validFacts validState validDevice validClock validVoltage validBuffer validDisplay validMemory validHeap validBlock disjoint supported possible sides depths offsets pitch need bench numberAt trail walkFrom step overruns tagAt requestOf requestBy requestBytes rowOf table outsideTags groupTags groupOf decided nthWord turnOf outsideAnswer outsideAfter oneBit onesIn aligned lowest inside apart clearOf freeHandle fits lowestAddress grants allocation placeOf handleAfter handleValue
+run-released = refl
+
+-- ---- a record with two blocks that share the byte at 0x3C800010
+abbrev sharedByte : Board
+sharedByte = withBlocks bench (newBlock 0x3C800000 17 1 0 ∷ newBlock 0x3C800010 16 16 0 ∷ [])
+
+-- it is not valid: `Refusals`
+shared-refused : reply sharedByte twoBlocks .answer .outcome ≡ invalidBoard
+unfolding reply bench valid validFacts validState validDevice validClock validVoltage validDisplay validBuffer supported possible sides depths offsets pitch need validMemory validHeap validBlock disjoint clearOf inside apart oneBit onesIn aligned
+shared-refused = refl
+
+pub shared-untouched : Untouched sharedByte twoBlocks
+shared-untouched = refusals sharedByte twoBlocks (inr (inr (inr shared-refused)))
