@@ -23,8 +23,8 @@ use Rattle.table.specs.declared.kinds.HandleTag.{HandleTag}
 use Rattle.table.specs.declared.kinds.Kind.{Kind}
 use Rattle.table.specs.declared.kinds.OutsideTag.{OutsideTag}
 use Rattle.tags.proofs.Laws.Memory.{free-is, free-most, grant-is, taken-left, free-left}
-use Rattle.tags.specs.Memory.{handleCount, blockPlace, freeHandle, allocation, grantedHandle, blocksWith, allocationOf, allocateAfter, withLock, takenAfter, handleAfter}
-use Rattle.tags.specs.Memory.{takenValue, unknownValue, handleValue, blockOf}
+use Rattle.tags.specs.Memory.{blockPlace, grantedHandle, blocksWith, allocationOf, withLock, takenAfter, handleAfter}
+use Rattle.tags.specs.Memory.{takenValue, unknownValue, handleValue}
 use Rattle.tags.specs.Outside.{outsideAnswer, outsideAfter}
 use Rattle.tags.specs.Place.{change, item, idOf}
 use Rattle.tags.specs.declared.memory.Allocation.{Allocation}
@@ -138,14 +138,15 @@ nothing true = refl
 nothing false = refl
 
 place-held : (blocks : List Block) (t : HandleTag) (at : Place)
-    → held (change noBlock (handleAfter t) blocks at) + drops t (unle (le 4 (handleValue t (item noBlock blocks at)))) (item noBlock blocks at .size) ≡ held blocks
+    → held (change noBlock (handleAfter t) blocks at) + drops t (unle (le 4 (handleValue t (item noBlock blocks at)))) (item noBlock blocks at .size)
+    ≡ held blocks
 place-held blocks t (Place.At i) = handle-held blocks i t (getD blocks i noBlock .taken) refl
-place-held blocks t Place.Unlisted = unlisted t
+place-held blocks t Place.Unlisted = none-dropped t
   where
-    unlisted : (t : HandleTag) → held blocks + drops t (unle (le 4 (handleValue t noBlock))) 0 ≡ held blocks
-    unlisted HandleTag.Lock = omega arith
-    unlisted HandleTag.Unlock = omega arith
-    unlisted HandleTag.Release = let z = nothing (eqb (unle (le 4 (handleValue HandleTag.Release noBlock))) 0) in omega arith
+    none-dropped : (t : HandleTag) → held blocks + drops t (unle (le 4 (handleValue t noBlock))) 0 ≡ held blocks
+    none-dropped HandleTag.Lock = omega arith
+    none-dropped HandleTag.Unlock = omega arith
+    none-dropped HandleTag.Release = let z = nothing (eqb (unle (le 4 (handleValue HandleTag.Release noBlock))) 0) in omega arith
 
 -- ---- one tag
 outside-held : (b : Board) → length (b .blocks) ≡ 32 → (k : OutsideTag) (request : List ℕ)
@@ -221,21 +222,21 @@ outcome-walked n (inr (inr (inl z))) = rw z
 outcome-walked n (inr (inr (inr z))) = rw z
 
 module _ (b : Board) (p : length (b .blocks) ≡ 32) (m : List ℕ) where
-  counted : (t : Bool) → isWalked (reply b m .answer .outcome) ≡ t → {b′ : Board} → reply b m .answer .board ≡ b′
+  by-outcome : (t : Bool) → isWalked (reply b m .answer .outcome) ≡ t → {b′ : Board} → reply b m .answer .board ≡ b′
       → held (b′ .blocks) + releasedIn (decisionOf b m) b (cond t (trailOf m .requests) []) (answersOf b m)
       ≡ held (b .blocks) + grantedIn (cond t (trailOf m .requests) []) (answersOf b m)
       → held (reply b m .answer .board .blocks) + released b m ≡ held (b .blocks) + granted b m
-  counted t e eb h = rw (e, eb) h
+  by-outcome t e eb h = rw (e, eb) h
 
   message-held : held (reply b m .answer .board .blocks) + released b m ≡ held (b .blocks) + granted b m
   unfolding served
   message-held = go (replied b m)
     where
       go : Replied b m → held (reply b m .answer .board .blocks) + released b m ≡ held (b .blocks) + granted b m
-      go (untouched o e f z) = counted false (refused-not-walked (reply b m .answer .outcome) o) f (omega arith)
+      go (untouched o e f z) = by-outcome false (refused-not-walked (reply b m .answer .outcome) o) f (omega arith)
       go (walked v s e) =
           let w : isWalked (reply b m .answer .outcome) ≡ true = rw e (outcome-walked (trailOf m .ending .outcome) (ending-outcome m (word m 0) header)) in
-          counted true w (ap (λ (x : Call Served). x .answer .board) e) (tags-held (decisionOf b m) b p (trailOf m .requests))
+          by-outcome true w (ap (λ (x : Call Served). x .answer .board) e) (tags-held (decisionOf b m) b p (trailOf m .requests))
 
   message-places : length (reply b m .answer .board .blocks) ≡ 32
   unfolding served

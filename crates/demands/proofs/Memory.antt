@@ -18,14 +18,15 @@ use Rattle.board.specs.declared.memory.Block.{Block}
 use Rattle.board.specs.declared.record.Board.{Board}
 use Rattle.tags.proofs.Laws.Memory.{Fits, fits-is, fits-by, address-is, free-is, free-most, Grant, grants-is}
 use Rattle.tags.proofs.Laws.Memory.{size-refused, alignment-refused, place-refused, address-refused, is-granted}
-use Rattle.tags.specs.Memory.{handleCount, isFree, freeHandle, fits, lowestAddress, grants, newBlock, allocation, grantedHandle}
+use Rattle.tags.specs.Memory.{handleCount, isFree, freeHandle, fitsAt, lowestAddress, grants, newBlock, allocation, grantedHandle}
 use Rattle.tags.specs.declared.memory.Allocation.{Allocation}
+use Rattle.responder.proofs.Laws.Responding.{valid-heap}
 use Rattle.responder.specs.Reply.{reply}
 use Rattle.demands.proofs.Kept.{kept}
 use Rattle.demands.specs.Memory.{ShareNoByte, blockAt, RoomAt, NoGap, IsLowest, LowestAddress, handleFor, AllTaken, RefusedFor, HandleAnswered, Handles}
 use Rattle.demands.specs.Memory.{BlocksApart}
 
--- ---- the test whether a block fits, and the plain facts
+-- ---- the test whether a block fitsAt, and the plain facts
 module _ (b : Board) (size alignment a : ℕ) where
   clear-is : (c : Block) → clearOf (span a size) c ≡ true → c .taken ≡ true → ShareNoByte (span a size) (bytesOf c)
   unfolding clearOf
@@ -59,21 +60,19 @@ module _ (b : Board) (size alignment a : ℕ) where
         alone = every-from (clearOf (span a size)) noBlock (b .blocks) (λ i l. is-clear (blockAt b i) (r .alone i));
       }
 
-heap-valid : (b : Board) → valid b ≡ true → validHeap (b .heap) ≡ true
-heap-valid b v = memory-parts (b .display .region) (b .heap) (b .blocks) (valid-parts b v .memory) .placed
-
 module _ (b : Board) (v : valid b ≡ true) (size alignment : ℕ) (s : 0 < size) where
   -- of any address with room: one is found, and it is not above
-  at-most : (x : ℕ) → RoomAt b size alignment x → (0 < lowestAddress (b .heap) (b .blocks) size alignment) × (lowestAddress (b .heap) (b .blocks) size alignment ≤ x)
+  at-most : (x : ℕ) → RoomAt b size alignment x
+      → (0 < lowestAddress (b .heap) (b .blocks) size alignment) × (lowestAddress (b .heap) (b .blocks) size alignment ≤ x)
   at-most x r =
       let l = r .in-heap in
-      address-is (b .heap) (b .blocks) size alignment (heap-valid b v) .lowest x (r .from-base) (omega arith)
+      address-is (b .heap) (b .blocks) size alignment (valid-heap b v) .lowest x (r .from-base) (omega arith)
       (fits-by (b .heap) (b .blocks) size alignment x (is-room b size alignment x r))
 
   has-room : 0 < lowestAddress (b .heap) (b .blocks) size alignment → RoomAt b size alignment (lowestAddress (b .heap) (b .blocks) size alignment)
   has-room h =
       room-is b size alignment _
-      (fits-is (b .heap) (b .blocks) size alignment _ (address-is (b .heap) (b .blocks) size alignment (heap-valid b v) .passes h))
+      (fits-is (b .heap) (b .blocks) size alignment _ (address-is (b .heap) (b .blocks) size alignment (valid-heap b v) .passes h))
 
   none-found : NoGap b size alignment → lowestAddress (b .heap) (b .blocks) size alignment ≡ 0
   none-found n = go (ℕ-discrete (lowestAddress (b .heap) (b .blocks) size alignment) 0)
@@ -85,7 +84,7 @@ module _ (b : Board) (v : valid b ≡ true) (size alignment : ℕ) (s : 0 < size
 pub lowest-address : LowestAddress
 lowest-address b v size alignment s =
     record {
-      room = has-room b v size alignment s;
+      found-room = has-room b v size alignment s;
       least = λ x r. at-most b v size alignment s x r .1;
       none = ((λ z x r. let h = at-most b v size alignment s x r .0 in absurd (omega arith)), none-found b v size alignment s);
     }

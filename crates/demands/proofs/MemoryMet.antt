@@ -26,7 +26,7 @@ use Rattle.table.specs.Table.{outsideTags, groupTags, table, rowOf}
 use Rattle.table.specs.declared.kinds.HandleTag.{HandleTag}
 use Rattle.table.specs.declared.kinds.Kind.{Kind}
 use Rattle.table.specs.declared.kinds.OutsideTag.{OutsideTag}
-use Rattle.tags.specs.Memory.{freeHandle, fits, lowestAddress, grants, newBlock, allocation, handleAfter, handleValue}
+use Rattle.tags.specs.Memory.{freeHandle, fitsAt, lowestAddress, grants, newBlock, allocation, handleAfter, handleValue}
 use Rattle.tags.specs.Outside.{outsideAnswer, outsideAfter}
 use Rattle.tags.specs.Place.{placeOf}
 use Rattle.display.specs.Decision.{decided}
@@ -65,7 +65,7 @@ unfolding reply served opened goodSize numberAt trail walkFrom step overruns tag
 blocks-done = rw bench-valid
 
 blocks-answers : answersOf bench twoBlocks ≡ says (le 4 1) ∷ says (le 4 2) ∷ says (le 4 0x3C800000) ∷ []
-unfolding bench numberAt trail walkFrom step overruns tagAt requestOf requestBy requestBytes rowOf table outsideTags groupTags groupOf decided nthWord turnOf outsideAnswer outsideAfter oneBit onesIn aligned lowest inside apart clearOf freeHandle fits lowestAddress grants allocation placeOf handleAfter handleValue
+unfolding bench numberAt trail walkFrom step overruns tagAt requestOf requestBy requestBytes rowOf table outsideTags groupTags groupOf decided nthWord turnOf outsideAnswer outsideAfter oneBit onesIn aligned lowest inside apart clearOf freeHandle fitsAt lowestAddress grants allocation placeOf handleAfter handleValue
 blocks-answers = refl
 
 blocks-trail : trailOf twoBlocks .tags ≡ requestTag 8 0x0003000c 12 ∷ requestTag 32 0x0003000c 12 ∷ requestTag 56 0x0003000d 8 ∷ []
@@ -75,16 +75,16 @@ blocks-trail = refl
 -- `Kept` and `BlocksApart`: the record afterwards has these blocks, is valid, and they share no byte
 pub blocks-first : blockAt (reply bench twoBlocks .answer .board) 0
     ≡ record { taken = true; locked = true; base = 0x3C800000; size = 4096; alignment = 4096; flags = 7 }
-unfolding reply served opened goodSize bench numberAt trail walkFrom step overruns tagAt requestOf requestBy requestBytes rowOf table outsideTags groupTags groupOf decided nthWord turnOf outsideAnswer outsideAfter oneBit onesIn aligned lowest inside apart clearOf freeHandle fits lowestAddress grants allocation placeOf handleAfter handleValue
+unfolding reply served opened goodSize bench numberAt trail walkFrom step overruns tagAt requestOf requestBy requestBytes rowOf table outsideTags groupTags groupOf decided nthWord turnOf outsideAnswer outsideAfter oneBit onesIn aligned lowest inside apart clearOf freeHandle fitsAt lowestAddress grants allocation placeOf handleAfter handleValue
 blocks-first = rw bench-valid
 
 pub blocks-second : blockAt (reply bench twoBlocks .answer .board) 1
     ≡ record { taken = true; locked = false; base = 0x3C801000; size = 16; alignment = 16; flags = 0 }
-unfolding reply served opened goodSize bench numberAt trail walkFrom step overruns tagAt requestOf requestBy requestBytes rowOf table outsideTags groupTags groupOf decided nthWord turnOf outsideAnswer outsideAfter oneBit onesIn aligned lowest inside apart clearOf freeHandle fits lowestAddress grants allocation placeOf handleAfter handleValue
+unfolding reply served opened goodSize bench numberAt trail walkFrom step overruns tagAt requestOf requestBy requestBytes rowOf table outsideTags groupTags groupOf decided nthWord turnOf outsideAnswer outsideAfter oneBit onesIn aligned lowest inside apart clearOf freeHandle fitsAt lowestAddress grants allocation placeOf handleAfter handleValue
 blocks-second = rw bench-valid
 
-pub blocks-valid : valid (reply bench twoBlocks .answer .board) ≡ true
-blocks-valid = kept bench twoBlocks bench-valid
+pub two-valid : valid (reply bench twoBlocks .answer .board) ≡ true
+two-valid = kept bench twoBlocks bench-valid
 
 pub blocks-share-none : ShareNoByte (bytesOf (blockAt (reply bench twoBlocks .answer .board) 0)) (bytesOf (blockAt (reply bench twoBlocks .answer .board) 1))
 blocks-share-none = blocks-apart bench twoBlocks bench-valid 0 1 (λ e. absurd (omega arith)) (rw blocks-first) (rw blocks-second)
@@ -147,16 +147,16 @@ blocks-alike =
 -- ---- `LowestAddress` and `Handles`, on the bench record
 -- 4,096 bytes aligned to 4,096 go to the heap's base, and get handle 1
 bench-address : lowestAddress (bench .heap) (bench .blocks) 4096 4096 ≡ 0x3C800000
-unfolding bench oneBit onesIn aligned lowest inside clearOf fits lowestAddress
+unfolding bench oneBit onesIn aligned lowest inside clearOf fitsAt lowestAddress
 bench-address = refl
 
 pub bench-room : RoomAt bench 4096 4096 0x3C800000
 bench-room =
     let found = lowest-address bench bench-valid 4096 4096 (lit< tt) in
-    rw bench-address at (found .room (rw bench-address (lit< tt)))
+    rw bench-address at (found .found-room (rw bench-address (lit< tt)))
 
 bench-handle : handleFor bench 4096 4096 7 ≡ 1
-unfolding bench oneBit onesIn aligned lowest inside clearOf freeHandle fits lowestAddress grants allocation
+unfolding bench oneBit onesIn aligned lowest inside clearOf freeHandle fitsAt lowestAddress grants allocation
 bench-handle = refl
 
 pub bench-free : blockAt bench 0 .taken ≡ false
@@ -167,8 +167,8 @@ no-gap : NoGap bench 0x0040_0001 1
 unfolding bench
 no-gap a r = let f = r .from-base in let l = r .in-heap in absurd (omega arith)
 
-pub none-found : lowestAddress (bench .heap) (bench .blocks) 0x0040_0001 1 ≡ 0
-none-found = lowest-address bench bench-valid 0x0040_0001 1 (lit< tt) .none .1 no-gap
+pub bench-none : lowestAddress (bench .heap) (bench .blocks) 0x0040_0001 1 ≡ 0
+bench-none = lowest-address bench bench-valid 0x0040_0001 1 (lit< tt) .none .1 no-gap
 
 pub none-granted : handleFor bench 0x0040_0001 1 0 ≡ 0
 none-granted = handles bench bench-valid 0x0040_0001 1 0 .zero-when .1 (inr (inr (inr no-gap)))
@@ -181,7 +181,7 @@ pub odd-granted : handleFor bench 16 24 0 ≡ 0
 unfolding oneBit onesIn
 odd-granted = handles bench bench-valid 16 24 0 .zero-when .1 (inr (inl refl))
 
--- ---- `BytesHeld`, over a run with a fault and a refusal in it
+-- ---- `BytesHeld`, over a fourMessages with a fault and a refusal in it
 -- allocate 64 bytes; then a rate of no request, which is a fault, and an allocate behind it
 abbrev faultBehind : List ℕ
 faultBehind = wordBytes (72 ∷ 0 ∷ 0x0003000c ∷ 12 ∷ 0 ∷ 64 ∷ 64 ∷ 0 ∷ 0x00030002 ∷ 0 ∷ 0 ∷ 0x0003000c ∷ 12 ∷ 0 ∷ 32 ∷ 32 ∷ 0 ∷ 0 ∷ [])
@@ -191,11 +191,11 @@ abbrev noRequest : List ℕ
 noRequest = wordBytes (36 ∷ 1 ∷ 0x0003000c ∷ 12 ∷ 0 ∷ 64 ∷ 64 ∷ 0 ∷ 0 ∷ [])
 
 -- release handle 1, which is locked, and once more
-abbrev releases : List ℕ
-releases = wordBytes (44 ∷ 0 ∷ 0x0003000f ∷ 4 ∷ 0 ∷ 1 ∷ 0x0003000f ∷ 4 ∷ 0 ∷ 1 ∷ 0 ∷ [])
+abbrev releaseTwice : List ℕ
+releaseTwice = wordBytes (44 ∷ 0 ∷ 0x0003000f ∷ 4 ∷ 0 ∷ 1 ∷ 0x0003000f ∷ 4 ∷ 0 ∷ 1 ∷ 0 ∷ [])
 
-abbrev run : List (List ℕ)
-run = twoBlocks ∷ faultBehind ∷ noRequest ∷ releases ∷ []
+abbrev fourMessages : List (List ℕ)
+fourMessages = twoBlocks ∷ faultBehind ∷ noRequest ∷ releaseTwice ∷ []
 
 bench-without : WithoutBlocks bench
 unfolding bench
@@ -206,16 +206,16 @@ bench-without = record { places = refl; all-free = all-free-places 32 }
     all-free-places (suc n) zero = refl
     all-free-places (suc n) (suc i) = all-free-places n i
 
-pub run-counted : held (lastBoard bench run .blocks) + releasedSoFar bench run ≡ grantedSoFar bench run
-run-counted = bytes-held bench bench-without run
+pub run-counted : held (lastBoard bench fourMessages .blocks) + releasedSoFar bench fourMessages ≡ grantedSoFar bench fourMessages
+run-counted = bytes-held bench bench-without fourMessages
 
 -- 4,096 + 16 + 64 bytes were granted, 4,096 released, and 80 are held
-pub run-granted : grantedSoFar bench run ≡ 4176
-unfolding reply served opened goodSize valid validFacts validState validDevice validClock validVoltage validBuffer validDisplay validMemory validHeap validBlock disjoint supported possible sides depths offsets pitch need bench numberAt trail walkFrom step overruns tagAt requestOf requestBy requestBytes rowOf table outsideTags groupTags groupOf decided nthWord turnOf outsideAnswer outsideAfter oneBit onesIn aligned lowest inside apart clearOf freeHandle fits lowestAddress grants allocation placeOf handleAfter handleValue
+pub run-granted : grantedSoFar bench fourMessages ≡ 4176
+unfolding reply served opened goodSize valid validFacts validState validDevice validClock validVoltage validBuffer validDisplay validMemory validHeap validBlock disjoint supported possible sides depths offsets pitch need bench numberAt trail walkFrom step overruns tagAt requestOf requestBy requestBytes rowOf table outsideTags groupTags groupOf decided nthWord turnOf outsideAnswer outsideAfter oneBit onesIn aligned lowest inside apart clearOf freeHandle fitsAt lowestAddress grants allocation placeOf handleAfter handleValue
 run-granted = refl
 
-pub run-released : releasedSoFar bench run ≡ 4096
-unfolding reply served opened goodSize valid validFacts validState validDevice validClock validVoltage validBuffer validDisplay validMemory validHeap validBlock disjoint supported possible sides depths offsets pitch need bench numberAt trail walkFrom step overruns tagAt requestOf requestBy requestBytes rowOf table outsideTags groupTags groupOf decided nthWord turnOf outsideAnswer outsideAfter oneBit onesIn aligned lowest inside apart clearOf freeHandle fits lowestAddress grants allocation placeOf handleAfter handleValue
+pub run-released : releasedSoFar bench fourMessages ≡ 4096
+unfolding reply served opened goodSize valid validFacts validState validDevice validClock validVoltage validBuffer validDisplay validMemory validHeap validBlock disjoint supported possible sides depths offsets pitch need bench numberAt trail walkFrom step overruns tagAt requestOf requestBy requestBytes rowOf table outsideTags groupTags groupOf decided nthWord turnOf outsideAnswer outsideAfter oneBit onesIn aligned lowest inside apart clearOf freeHandle fitsAt lowestAddress grants allocation placeOf handleAfter handleValue
 run-released = refl
 
 -- ---- a record with two blocks that share the byte at 0x3C800010

@@ -107,8 +107,8 @@ pub record WithoutBlocks (b : Board) : Type 0 where
   pub places : length (b .blocks) ≡ handleCount
   pub all-free : (i : ℕ) → blockAt b i .taken ≡ false
 
--- After any run from such a record, valid or not, with faults and refusals among its messages: what is held and what was
--- released is what was granted.
+-- After any run from such a record, valid or not, with faults and refusals among its messages: what is held and what
+-- was released is what was granted.
 abbrev pub BytesHeld : Type 0
 BytesHeld =
     (b : Board) → WithoutBlocks b → (ms : List (List ℕ))

@@ -40,7 +40,7 @@ NoGap b size alignment = (address : ℕ) → RoomAt b size alignment address →
 
 pub record IsLowest (b : Board) (size alignment found : ℕ) : Type 0 where
   -- what is found, above 0, has room
-  pub room : 0 < found → RoomAt b size alignment found
+  pub found-room : 0 < found → RoomAt b size alignment found
   -- no lower address has
   pub least : (address : ℕ) → RoomAt b size alignment address → found ≤ address
   -- and none is found, which 0 says, exactly if none has

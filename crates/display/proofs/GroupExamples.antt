@@ -8,13 +8,14 @@ use Rattle.words.specs.Align.{oneBit}
 use Rattle.words.specs.Numbers.{le, numberAt, nthWord}
 use Rattle.board.specs.Bench.{benchDisplay}
 use Rattle.board.specs.Display.{pitch, need, sides, depths, offsets, possible, supported}
+use Rattle.board.specs.Memory.{span}
 use Rattle.board.specs.declared.display.Display.{Display}
 use Rattle.board.specs.declared.display.Size.{Size}
 use Rattle.board.specs.declared.facts.Span.{Span}
 use Rattle.table.specs.declared.kinds.FrameTag.{FrameTag}
 use Rattle.table.specs.declared.kinds.Setting.{Setting}
 use Rattle.answers.specs.Answer.{twoWords}
-use Rattle.display.specs.Decision.{span, nowhere, supportedFrom, placedAt, allocatable, fitsBuffer, accepted, decided, groupAnswer}
+use Rattle.display.specs.Decision.{nowhere, supportedFrom, placedAt, allocatable, fitsBuffer, accepted, decided, groupAnswer}
 use Rattle.display.specs.Operation.{withSetting, unasked, noted}
 use Rattle.display.specs.declared.decision.Decision.{Decision}
 use Rattle.display.specs.declared.operation.Operation.{Operation}

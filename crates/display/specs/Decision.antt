@@ -7,6 +7,7 @@ use Rattle.words.specs.Align.{oneBit}
 use Rattle.words.specs.Numbers.{le}
 use Rattle.words.specs.Round.{roundUp}
 use Rattle.board.specs.Display.{pitch, need, supported}
+use Rattle.board.specs.Memory.{span}
 use Rattle.board.specs.declared.display.Display.{Display}
 use Rattle.board.specs.declared.display.Settings.{Settings}
 use Rattle.board.specs.declared.facts.Span.{Span}
@@ -15,9 +16,6 @@ use Rattle.table.specs.declared.kinds.Setting.{Setting}
 use Rattle.answers.specs.Answer.{twoWords}
 use Rattle.display.specs.declared.decision.Decision.{Decision}
 use Rattle.display.specs.declared.operation.Operation.{Operation}
-
-abbrev pub span : (base size : ℕ) → Span
-span base size = record { base = base; size = size }
 
 abbrev pub nowhere : Span
 nowhere = span 0 0

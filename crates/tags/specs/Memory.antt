@@ -33,13 +33,13 @@ unfoldable pub freeHandle : List Block → ℕ
 freeHandle blocks = lowest (isFree blocks) handleCount 1
 
 -- an aligned address from which `size` bytes lie in the heap, between the blocks
-unfoldable pub fits : (heap : Span) → List Block → (size alignment address : ℕ) → Bool
-fits heap blocks size alignment address =
+unfoldable pub fitsAt : (heap : Span) → List Block → (size alignment address : ℕ) → Bool
+fitsAt heap blocks size alignment address =
     aligned alignment address && inside heap (span address size) && every (clearOf (span address size)) blocks
 
 -- the lowest such address in the heap; 0 where there is none
 unfoldable pub lowestAddress : (heap : Span) → List Block → (size alignment : ℕ) → ℕ
-lowestAddress heap blocks size alignment = lowest (fits heap blocks size alignment) (heap .size) (heap .base)
+lowestAddress heap blocks size alignment = lowest (fitsAt heap blocks size alignment) (heap .size) (heap .base)
 
 -- granted when the size is above 0, the alignment has one bit set, a place is free and there is an address
 unfoldable pub grants : (heap : Span) → List Block → (size alignment : ℕ) → Bool

@@ -44,7 +44,7 @@ module _ {A : Type 0} (p : A → Bool) (none : A) (n : p none ≡ true) where
 
 -- ---- GPU memory
 module _ (region heap : Span) (blocks : List Block) (v : validMemory region heap blocks ≡ true) where
-  -- a new block, where it fits
+  -- a new block, where it fitsAt
   new-valid : (size alignment flags a : ℕ) → 0 < size → oneBit alignment ≡ true → Fits heap blocks size alignment a
       → (i : ℕ) → validMemory region heap (set blocks i (newBlock a size alignment flags)) ≡ true
   unfolding validBlock inside disjoint
@@ -59,7 +59,7 @@ module _ (region heap : Span) (blocks : List Block) (v : validMemory region heap
       let g = grant-is heap blocks size alignment flags e in
       let w = address-is heap blocks size alignment (memory-parts region heap blocks v .placed) in
       rw (g .block-is)
-      (new-valid size alignment flags _ (g .filled) (g .single) (fits-is heap blocks size alignment _ (w .passes (g .found))) (handle - 1))
+      (new-valid size alignment flags _ (g .filled) (g .single) (fits-is heap blocks size alignment _ (w .passes (g .has-address))) (handle - 1))
   allocation-valid size alignment flags Allocation.Refused e = v
 
   -- a block that was there, with another lock, or none

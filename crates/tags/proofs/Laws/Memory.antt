@@ -19,7 +19,7 @@ use Rattle.board.specs.Memory.{span, inside, apart, noBlock, bytesOf, clearOf, 
 use Rattle.board.specs.declared.facts.Span.{Span}
 use Rattle.board.specs.declared.memory.Block.{Block}
 use Rattle.table.specs.declared.kinds.HandleTag.{HandleTag}
-use Rattle.tags.specs.Memory.{handleCount, isFree, freeHandle, fits, lowestAddress, grants, newBlock, allocation, takenAfter, handleAfter}
+use Rattle.tags.specs.Memory.{handleCount, isFree, freeHandle, fitsAt, lowestAddress, grants, newBlock, allocation, takenAfter, handleAfter}
 use Rattle.tags.specs.declared.memory.Allocation.{Allocation}
 use Rattle.tags.specs.Raised.{raisedOver, Raised}
 
@@ -55,7 +55,7 @@ free-most blocks = go (ℕ-discrete (freeHandle blocks) 0)
     go (yes e) = omega arith
     go (no e) = let h = free-is blocks .most (omega arith) in omega arith
 
--- ---- an address where a block fits, as plain facts
+-- ---- an address where a block fitsAt, as plain facts
 pub record Fits (heap : Span) (blocks : List Block) (size alignment a : ℕ) : Type 0 where
   pub even : aligned alignment a ≡ true
   pub first : heap .base ≤ a
@@ -63,8 +63,8 @@ pub record Fits (heap : Span) (blocks : List Block) (size alignment a : ℕ) : T
   pub alone : every (clearOf (span a size)) blocks ≡ true
 
 module _ (heap : Span) (blocks : List Block) (size alignment a : ℕ) where
-  pub fits-is : fits heap blocks size alignment a ≡ true → Fits heap blocks size alignment a
-  unfolding fits inside
+  pub fits-is : fitsAt heap blocks size alignment a ≡ true → Fits heap blocks size alignment a
+  unfolding fitsAt inside
   fits-is e =
       let f = leb (heap .base) a in
       let l = leb (a + size) (heap .base + heap .size) in
@@ -73,8 +73,8 @@ module _ (heap : Span) (blocks : List Block) (size alignment a : ℕ) where
       let e0 = and-eq-true-iff f l .0 (e1 .1) in
       record { even = e1 .0; first = leb-true _ _ (e0 .0); last = leb-true _ _ (e0 .1); alone = e2 .1 }
 
-  pub fits-by : Fits heap blocks size alignment a → fits heap blocks size alignment a ≡ true
-  unfolding fits inside
+  pub fits-by : Fits heap blocks size alignment a → fitsAt heap blocks size alignment a ≡ true
+  unfolding fitsAt inside
   fits-by f = rw (f .even, le-leb _ _ (f .first), le-leb _ _ (f .last), f .alone)
 
 -- ---- a block in the way
@@ -175,7 +175,7 @@ module _ (blocks : List Block) (address size alignment : ℕ) where
               ahead = λ q. absurd (omega (arith, s .above));
             }
 
--- ---- the search, from a₀ on: no address below a fits
+-- ---- the search, from a₀ on: no address below a fitsAt
 pub record Searching (blocks : List Block) (last size alignment a₀ a : ℕ) : Type 0 where
   pub even : aligned alignment a ≡ true
   pub most : a < 0x3_0000_0000
@@ -198,7 +198,7 @@ module _ (blocks : List Block) (last size alignment : ℕ) where
 
 module _ (heap : Span) (blocks : List Block) (size alignment : ℕ) (v : validHeap heap ≡ true) (p : 0 < size) (o : oneBit alignment ≡ true) {a₀ last a : ℕ}
     (e₀ : a₀ ≡ roundUp alignment (heap .base)) (el : last ≡ heap .base + heap .size) (s : Searching blocks last size alignment a₀ a) where
-  before : (y : ℕ) → fits heap blocks size alignment y ≡ true → a ≤ y
+  before : (y : ℕ) → fitsAt heap blocks size alignment y ≡ true → a ≤ y
   before y t =
       let f = fits-is heap blocks size alignment y t in
       let h : a₀ ≤ y = rw e₀ (up-least alignment (heap .base) (one-bit-least alignment o) y (f .even) (f .first)) in
@@ -209,7 +209,7 @@ module _ (heap : Span) (blocks : List Block) (size alignment : ℕ) (v : validHe
   address-found l w e =
       let k = heap-is heap v in
       let low : heap .base ≤ a = omega (arith, s .least, up-above alignment (heap .base) (one-bit-least alignment o)) in
-      lowest-found (fits heap blocks size alignment) (heap .size) (heap .base) (k .first) a low (omega arith)
+      lowest-found (fitsAt heap blocks size alignment) (heap .size) (heap .base) (k .first) a low (omega arith)
       (fits-by heap blocks size alignment a (record { even = s .even; first = low; last = omega arith; alone = w .stays e }))
       (λ y _ t. before y t)
 
@@ -217,14 +217,14 @@ module _ (heap : Span) (blocks : List Block) (size alignment : ℕ) (v : validHe
   unfolding lowestAddress
   address-none l =
       let k = heap-is heap v in
-      lowest-none (fits heap blocks size alignment) (heap .size) (heap .base) (k .first)
+      lowest-none (fitsAt heap blocks size alignment) (heap .size) (heap .base) (k .first)
       (λ y _ t. let f = fits-is heap blocks size alignment y t .last in let b = before y t in absurd (omega arith))
 
 -- ---- the address that is found
 module _ (heap : Span) (blocks : List Block) (size alignment : ℕ) (v : validHeap heap ≡ true) where
-  pub address-is : Lowest (fits heap blocks size alignment) (heap .size) (heap .base) (lowestAddress heap blocks size alignment)
+  pub address-is : Lowest (fitsAt heap blocks size alignment) (heap .size) (heap .base) (lowestAddress heap blocks size alignment)
   unfolding lowestAddress
-  address-is = lowest-is (fits heap blocks size alignment) (heap .size) (heap .base) (heap-is heap v .first)
+  address-is = lowest-is (fitsAt heap blocks size alignment) (heap .size) (heap .base) (heap-is heap v .first)
 
 -- ---- what an allocate comes to, as the code tests it
 module _ (heap : Span) (blocks : List Block) (size alignment flags : ℕ) where
@@ -263,7 +263,7 @@ module _ (heap : Span) (blocks : List Block) (size alignment flags : ℕ) where
     pub single : oneBit alignment ≡ true
     pub handle-is : handle ≡ freeHandle blocks
     pub handle-least : 0 < handle
-    pub found : 0 < lowestAddress heap blocks size alignment
+    pub has-address : 0 < lowestAddress heap blocks size alignment
     pub block-is : b ≡ newBlock (lowestAddress heap blocks size alignment) size alignment flags
 
   pub grants-is : grants heap blocks size alignment ≡ true → {handle : ℕ} → handle ≡ freeHandle blocks → {b : Block}
@@ -281,7 +281,7 @@ module _ (heap : Span) (blocks : List Block) (size alignment flags : ℕ) where
         single = e0 .1;
         handle-is = eh;
         handle-least = omega arith;
-        found = ltb-true _ _ (e2 .1);
+        has-address = ltb-true _ _ (e2 .1);
         block-is = eb;
       }
 

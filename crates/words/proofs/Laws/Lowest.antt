@@ -50,7 +50,12 @@ module _ (p : ℕ → Bool) where
   pub lowest-is : (n a : ℕ) → 0 < a → Lowest p n a (lowest p n a)
   lowest-is zero a pos =
       subst (λ (r : ℕ). Lowest p zero a r) (sym (none a))
-      (record { passes = λ h. absurd (omega arith); least = λ h. absurd (omega arith); most = λ h. absurd (omega arith); lowest = λ x l m t. absurd (omega arith) })
+      (record {
+        passes = λ h. absurd (omega arith);
+        least = λ h. absurd (omega arith);
+        most = λ h. absurd (omega arith);
+        lowest = λ x l m t. absurd (omega arith);
+      })
   lowest-is (suc n) a pos = lowest-go n a pos (p a) refl (lowest-is n (suc a) (omega arith))
 
   -- ---- a search that passes over numbers

@@ -47,7 +47,7 @@ loop-again c =
     pairs-next (tested .before .before .before .before .loop .inv) (ltb-true _ _ (tested .if2 .taken)) (c .before .are-disjoint .ensures) (c .if3 .left)
 
 loop-less-2 : tie.Need-loop-less-2 Inv-loop μ-loop
-loop-less-2 c = let t = c .before .before .before .loop .inv in omega (arith, t .within, t .partner, t .apart)
+loop-less-2 c = let t = c .before .before .before .loop .inv in omega (arith, t .within, t .partner, t .in-front)
 
 loop-again-2 : tie.Need-loop-again-2 Inv-loop μ-loop
 loop-again-2 c =
@@ -61,5 +61,5 @@ pub all-disjoint-spec : {M : Type 1} → statement M
 all-disjoint-spec =
     tie.close
     (tie.spec Inv-loop μ-loop
-    (λ c. pairs-start (search needs)) (search needs) (search needs) mul-are-disjoint array-copy-out-are-disjoint (search needs) returns add-j loop-less loop-again
-    (search needs) (search needs) loop-less-2 loop-again-2 (λ c. search pairs-all))
+    (λ c. pairs-start (search needs)) (search needs) (search needs) mul-are-disjoint array-copy-out-are-disjoint (search needs) returns add-j loop-less
+    loop-again (search needs) (search needs) loop-less-2 loop-again-2 (λ c. search pairs-all))

@@ -6,7 +6,8 @@ use Rattle.display.proofs.decision.placed.Statement.{statement}
 use Rattle.display.proofs.decision.placed.Tie as tie
 
 lowest-multiple-requires : tie.Need-lowest-multiple-requires
-lowest-multiple-requires c κs = (accepted-placed _ _ (c .before .before .before .pre .1) (c .before .before .if1 .taken) .aligned, search needs)
+lowest-multiple-requires c κs =
+    (accepted-placed _ _ (c .before .before .before .pre .1) (c .before .before .if1 .taken) .aligned, search needs)
 
 cast-t7 : tie.Need-cast-t7
 cast-t7 c = let h = placed-fits _ _ (c .before .before .before .before .pre .0) (c .before .before .before .before .pre .1) (c .before .before .before .if1 .taken) in

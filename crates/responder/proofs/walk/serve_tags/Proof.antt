@@ -202,13 +202,15 @@ loop-less-2 c =
 
 loop-again-2 : tie.Need-loop-again-2 Inv-loop μ-loop
 loop-again-2 c =
-    let at-item = c .before .before .before .before .before .before .before .before .before .before .before .before .before .before .before in
+    let at-call = c .before .before .before .before .before .before in
+    let at-item = at-call .before .before .before .before .before .before .before .before .before in
     let at-ask = at-item .before .before .before .before .before .before .before .before .before in
     let at-tag = at-ask .before .before .before in
     serve-outside _ _ _ _ _ _ _ _ (at-tag .before .before .before .before .loop .inv) (at-tag .before .before .step-at .ensures)
     (at-tag .st .given .1) (at-ask .ask-at .ensures) (at-item .before .before .before .before .before .before .ask2 .given .1)
     (serves-refused _ _ (at-item .before .before .nth-word .ensures) (at-item .before .nth-word2 .ensures)
-    (c .before .before .before .before .before .before .before .before .before .before .enum-told4 .given .1) (c .before .before .before .before .before .before .before .nth-word3 .ensures) (c .before .before .before .before .before .before .allocate .ensures) (c .before .before .before .before .enum-told5 .given .1))
+    (at-call .before .before .before .before .enum-told4 .given .1) (at-call .before .nth-word3 .ensures) (at-call .allocate .ensures)
+    (c .before .before .before .before .enum-told5 .given .1))
     (c .before .before .put-word .ensures)
 
 sub-j : tie.Need-sub-j Inv-loop μ-loop
@@ -367,13 +369,15 @@ loop-less-10 c =
 
 loop-again-10 : tie.Need-loop-again-10 Inv-loop μ-loop
 loop-again-10 c =
-    let at-item = c .before .before .before .before .before .before .before .before .before .before .before .before .before .before .before .before in
+    let at-call = c .before .before .before .before .before .before .before in
+    let at-item = at-call .before .before .before .before .before .before .before .before .before in
     let at-ask = at-item .before .before .before .before .before .before .before .before .before in
     let at-tag = at-ask .before .before .before in
     serve-outside _ _ _ _ _ _ _ _ (at-tag .before .before .before .before .loop .inv) (at-tag .before .before .step-at .ensures)
     (at-tag .st .given .1) (at-ask .ask-at .ensures) (at-item .before .before .before .before .before .before .ask2 .given .1)
     (serves-granted _ _ (at-item .before .before .nth-word .ensures) (at-item .before .nth-word2 .ensures)
-    (c .before .before .before .before .before .before .before .before .before .before .before .enum-told4 .given .1) (c .before .before .before .before .before .before .before .before .nth-word3 .ensures) (c .before .before .before .before .before .before .before .allocate .ensures) (c .before .before .before .before .before .allocation .given .1) refl)
+    (at-call .before .before .before .before .enum-told4 .given .1) (at-call .before .nth-word3 .ensures) (at-call .allocate .ensures)
+    (c .before .before .before .before .before .allocation .given .1) refl)
     (c .before .before .put-word2 .ensures)
 
 loop-less-11 : tie.Need-loop-less-11 Inv-loop μ-loop
