@@ -1,19 +1,18 @@
 -- The bytes held are those granted minus those released.
-use mathlib.Core.Bool.{Bool, true, false, not, cond, _||_}
+use mathlib.Core.Bool.{Bool, true, false, cond}
 use mathlib.Core.List.{List, [], _∷_}
-use mathlib.Core.Logic.{_⊎_, inl, inr}
+use mathlib.Core.Logic.{inl, inr}
 use mathlib.Core.Path.{_≡_, refl, sym, ap, _∙_}
-use Prim.Native.Nat.{ℕ, zero, suc, _+_, _-_, _^_, _≤_, _<_}
-use native.Mathlib.Nat.{not-suc-le-zero, le-of-suc-le-suc, zero-lt-suc}
+use Prim.Native.Nat.{ℕ, zero, suc, _+_, _-_, _^_, _<_}
+use native.Mathlib.Nat.{not-suc-le-zero, le-of-suc-le-suc}
 use native.Mathlib.Omega.{arith}
-use borrow.Author.Tests.{eq-eqb, ne-eqb, not-true}
+use borrow.Author.Tests.{ne-eqb, not-true}
 use lib.Dec.{eqb}
 use lib.ListN.{length, getD, set, length-set}
 use lib.Seq.{set-getD}
 use Rattle.words.proofs.Laws.Numbers.{unle-le}
 use Rattle.words.specs.Numbers.{le, unle, nthWord, word}
 use Rattle.message.specs.Builder.{Call}
-use Rattle.message.specs.Outcomes.{done, noEnd, runsOver, shortRequest}
 use Rattle.message.specs.Sizes.{header}
 use Rattle.board.proofs.Laws.Memory.{taken-below}
 use Rattle.board.specs.Memory.{noBlock}
@@ -35,13 +34,11 @@ use Rattle.requests.specs.Requests.{Request, passed, short, asks, WalkOutcome}
 use Rattle.responder.proofs.Laws.Turns.{turns-keep}
 use Rattle.responder.specs.Answers.{turnOf, answers, after}
 use Rattle.responder.specs.Reply.{served, reply}
-use Rattle.responder.specs.Turns.{Said, silent, says}
 use Rattle.responder.specs.declared.respond.Served.{Served}
 use Rattle.demands.proofs.Laws.Replied.{Replied, untouched, walked, replied}
-use Rattle.demands.specs.BytesHeld.{held, grantedOutside, grantedBy, releasedOutside, releasedBy, grantedIn, releasedIn, isWalked, carriedOutOf}
-use Rattle.demands.specs.BytesHeld.{granted, released, lastBoard, grantedSoFar, releasedSoFar, WithoutBlocks, BytesHeld}
+use Rattle.demands.specs.BytesHeld.{held, grantedOutside, grantedBy, releasedOutside, releasedBy, grantedIn, releasedIn, isWalked}
+use Rattle.demands.specs.BytesHeld.{granted, released, lastBoard, grantedSoFar, releasedSoFar, BytesHeld}
 use Rattle.demands.specs.Changes.{Refusal}
-use Rattle.demands.specs.Memory.{blockAt}
 use Rattle.demands.specs.Terms.{trailOf, decisionOf, answersOf}
 
 -- ---- a place that is filled anew

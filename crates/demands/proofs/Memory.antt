@@ -1,29 +1,28 @@
 -- GPU memory: the lowest address, the handle, and blocks that never overlap.
 use mathlib.Core.Bool.{Bool, true, false, not, cond, _||_, true≢false}
-use mathlib.Core.List.{List}
-use mathlib.Core.Logic.{_⊎_, inl, inr, _↔_}
+use mathlib.Core.Logic.{_⊎_, inl, inr}
 use mathlib.Core.Path.{_≡_, refl, sym, ap, _∙_}
 use Prim.Native.Nat.{ℕ, _+_, _-_, _≤_, _<_}
 use native.Mathlib.Decide.{ℕ-discrete}
 use native.Mathlib.Omega.{arith}
-use borrow.Author.Tests.{eqb-true, eq-eqb, not-true, not-false}
-use lib.ListN.{length, getD}
+use borrow.Author.Tests.{eqb-true, eq-eqb, not-true}
+use lib.ListN.{getD}
 use Rattle.words.proofs.Laws.Every.{every-at, every-from, pairs-at}
 use Rattle.words.specs.Align.{oneBit, aligned}
 use Rattle.board.proofs.Laws.Memory.{apart-is, is-apart, clear-of-none, disjoint-swap, disjoint-none, memory-parts}
 use Rattle.board.proofs.Laws.Record.{valid-parts}
-use Rattle.board.specs.Memory.{span, apart, noBlock, bytesOf, clearOf, validHeap, disjoint}
+use Rattle.board.specs.Memory.{span, apart, noBlock, bytesOf, clearOf, disjoint}
 use Rattle.board.specs.Record.{valid}
 use Rattle.board.specs.declared.memory.Block.{Block}
 use Rattle.board.specs.declared.record.Board.{Board}
-use Rattle.tags.proofs.Laws.Memory.{Fits, fits-is, fits-by, address-is, free-is, free-most, Grant, grants-is}
+use Rattle.tags.proofs.Laws.Memory.{Fits, fits-is, fits-by, address-is, free-is, free-most, grants-is}
 use Rattle.tags.proofs.Laws.Memory.{size-refused, alignment-refused, place-refused, address-refused, is-granted}
-use Rattle.tags.specs.Memory.{handleCount, isFree, freeHandle, fitsAt, lowestAddress, grants, newBlock, allocation, grantedHandle}
+use Rattle.tags.specs.Memory.{isFree, freeHandle, fitsAt, lowestAddress, grants, newBlock, allocation, grantedHandle}
 use Rattle.tags.specs.declared.memory.Allocation.{Allocation}
 use Rattle.responder.proofs.Laws.Responding.{valid-heap}
 use Rattle.responder.specs.Reply.{reply}
 use Rattle.demands.proofs.Kept.{kept}
-use Rattle.demands.specs.Memory.{ShareNoByte, blockAt, RoomAt, NoGap, IsLowest, LowestAddress, handleFor, AllTaken, RefusedFor, HandleAnswered, Handles}
+use Rattle.demands.specs.Memory.{ShareNoByte, blockAt, RoomAt, NoGap, LowestAddress, handleFor, RefusedFor, Handles}
 use Rattle.demands.specs.Memory.{BlocksApart}
 
 -- ---- the test whether a block fitsAt, and the plain facts

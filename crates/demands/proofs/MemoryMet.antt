@@ -12,7 +12,7 @@ use Rattle.words.specs.Align.{oneBit, aligned}
 use Rattle.words.specs.Lowest.{lowest}
 use Rattle.words.specs.Numbers.{le, numberAt, nthWord, wordBytes}
 use Rattle.message.specs.Opening.{goodSize, opened}
-use Rattle.message.specs.Outcomes.{done, notRequest, shortRequest, invalidBoard}
+use Rattle.message.specs.Outcomes.{done, invalidBoard}
 use Rattle.message.specs.Walk.{tagAt, overruns, step, walkFrom}
 use Rattle.board.proofs.Laws.Bench.{bench-valid}
 use Rattle.board.specs.Bench.{bench}

@@ -1,13 +1,13 @@
 -- Laws of GPU memory: the lowest free handle, and the search for the lowest address.
 use mathlib.Core.Bool.{Bool, true, false, not, cond, _&&_, _||_, and-eq-true-iff, and-false, true≢false}
 use mathlib.Core.List.{List}
-use mathlib.Core.Path.{_≡_, refl, sym, ap, subst, _∙_}
-use Prim.Native.Nat.{ℕ, _+_, _-_, _^_, _≤_, _<_}
+use mathlib.Core.Path.{_≡_, refl, sym, ap, _∙_}
+use Prim.Native.Nat.{ℕ, _+_, _-_, _≤_, _<_}
 use native.Mathlib.Decide.{ℕ-discrete, decLe}
 use native.Mathlib.Omega.{arith}
 use borrow.Author.Tests.{leb-true, le-leb, ltb-true, lt-ltb, le-ltb, not-true, not-false}
 use lib.Dec.{leb, ltb}
-use lib.ListN.{length, getD, drop}
+use lib.ListN.{length, getD}
 use Rattle.words.proofs.Laws.Align.{one-bit-least, up-above, up-aligned, up-least}
 use Rattle.words.proofs.Laws.Every.{every-at, Passing, passing-from, passing-all, passing-next}
 use Rattle.words.proofs.Laws.Lowest.{Passed, Lowest, lowest-is, lowest-found, lowest-none}

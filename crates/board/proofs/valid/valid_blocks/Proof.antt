@@ -1,7 +1,7 @@
 use Prim.Native.Nat.{_-_}
 use Rattle.words.proofs.Laws.Every.{Passing, passing-from, passing-all, passing-fails, passing-next}
 use Rattle.words.specs.Every.{every}
-use Rattle.board.specs.Memory.{noBlock, validBlock}
+use Rattle.board.specs.Memory.{validBlock}
 use borrow.Author.Needs.{needs}
 use Rattle.board.proofs.valid.valid_blocks.Statement.{statement}
 use Rattle.board.proofs.valid.valid_blocks.Tie as tie
