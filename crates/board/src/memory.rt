@@ -42,7 +42,7 @@ pub fn is_inside(outer: Span, inner: Span) -> bool
     outer.base <= inner.base && end(inner) <= end(outer)
 }
 
-// Whether two runs of memory share no byte; the first may begin behind 2^32.
+// Whether two runs of memory share no byte; the first may begin behind 2^32. No entry point: for a base below 2^36.
 pub fn are_apart(base: u64, size: u32, t: Span) -> bool
     requires { ⌜ base < 0x10_0000_0000 ⌝ }
     ensures { λ r. ⌜ r ≡ apart (span base size) t ⌝ }
@@ -69,7 +69,7 @@ pub fn bytes_of(b: Block) -> Span
     }
 }
 
-// Whether a run of memory has no byte of the block at a place.
+// Whether a run of memory has no byte of the block at a place. No entry point: for a base below 2^36.
 pub fn is_clear_of(base: u64, size: u32, b: Block) -> bool
     requires { ⌜ base < 0x10_0000_0000 ⌝ }
     ensures { λ r. ⌜ r ≡ clearOf (span base size) b ⌝ }

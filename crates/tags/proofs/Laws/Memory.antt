@@ -19,7 +19,7 @@ use Rattle.board.specs.Memory.{span, inside, apart, noBlock, bytesOf, clearOf, 
 use Rattle.board.specs.declared.facts.Span.{Span}
 use Rattle.board.specs.declared.memory.Block.{Block}
 use Rattle.table.specs.declared.kinds.HandleTag.{HandleTag}
-use Rattle.tags.specs.Memory.{handleCount, isFree, freeHandle, fitsAt, lowestAddress, grants, newBlock, allocation, takenAfter, handleAfter}
+use Rattle.tags.specs.Memory.{handleCount, isFree, freeHandle, fitsAt, lowestAddress, grants, newBlock, allocation, withLock, takenAfter, handleAfter}
 use Rattle.tags.specs.declared.memory.Allocation.{Allocation}
 use Rattle.tags.specs.Raised.{raisedOver, Raised}
 
@@ -311,3 +311,36 @@ module _ (b : Block) {t x : HandleTag} (et : t ≡ x) where
 pub free-left : (t : HandleTag) (b : Block) → b .taken ≡ false → handleAfter t b ≡ b
 unfolding handleAfter
 free-left t b e = ap (λ (y : Bool). cond y (takenAfter t b) b) e
+
+-- ---- locks
+module _ (b : Block) where
+  -- a second lock changes nothing, and one unlock undoes any number
+  pub lock-twice : handleAfter HandleTag.Lock (handleAfter HandleTag.Lock b) ≡ handleAfter HandleTag.Lock b
+  unfolding handleAfter
+  lock-twice = go (b .taken) refl
+    where
+      go : (t : Bool) → b .taken ≡ t
+          → cond (cond t (withLock true b) b .taken) (withLock true (cond t (withLock true b) b)) (cond t (withLock true b) b) ≡ cond t (withLock true b) b
+      go true e = ap (λ (x : Bool). cond x (withLock true b) (withLock true b)) e
+      go false e = ap (λ (x : Bool). cond x (withLock true b) b) e
+
+  pub unlock-undoes : handleAfter HandleTag.Unlock (handleAfter HandleTag.Lock b) ≡ handleAfter HandleTag.Unlock b
+  unfolding handleAfter
+  unlock-undoes = go (b .taken) refl
+    where
+      go : (t : Bool) → b .taken ≡ t
+          → cond (cond t (withLock true b) b .taken) (withLock false (cond t (withLock true b) b)) (cond t (withLock true b) b) ≡ cond t (withLock false b) b
+      go true e = ap (λ (x : Bool). cond x (withLock false b) (withLock true b)) e
+      go false e = ap (λ (x : Bool). cond x (withLock false b) b) e
+
+  -- unlocking an unlocked block changes nothing
+  pub unlock-unlocked : b .locked ≡ false → handleAfter HandleTag.Unlock b ≡ b
+  unfolding handleAfter
+  unlock-unlocked e = go (b .taken)
+    where
+      same : withLock false b ≡ b
+      same = λ i. record { taken = b .taken; locked = sym e i; base = b .base; size = b .size; alignment = b .alignment; flags = b .flags }
+
+      go : (t : Bool) → cond t (withLock false b) b ≡ b
+      go true = same
+      go false = refl
