@@ -3,7 +3,7 @@ use mathlib.Core.Bool.{Bool, true, false, cond}
 use mathlib.Core.List.{List, [], _∷_}
 use mathlib.Core.Logic.{inl, inr}
 use mathlib.Core.Path.{_≡_, refl, sym, ap, _∙_}
-use Prim.Native.Nat.{ℕ, zero, suc, _+_, _-_, _^_, _<_}
+use Prim.Native.Nat.{ℕ, zero, suc, _+_, _-_, _<_}
 use native.Mathlib.Nat.{not-suc-le-zero, le-of-suc-le-suc}
 use native.Mathlib.Omega.{arith}
 use borrow.Author.Tests.{ne-eqb, not-true}
@@ -56,10 +56,6 @@ size-taken b e = ap (λ (t : Bool). cond t (b .size) 0) e
 size-free : (b : Block) → b .taken ≡ false → sizeIn b ≡ 0
 size-free b e = ap (λ (t : Bool). cond t (b .size) 0) e
 
--- the number of an answer of one word
-answer-number : (n : ℕ) → n < 2 ^ 32 → unle (le 4 n) ≡ n
-answer-number n l = unle-le 4 n l
-
 -- ---- an allocate
 module _ (b : Board) (places : length (b .blocks) ≡ 32) (request : List ℕ) where
   allocate-held : (g : Allocation) → g ≡ allocationOf request (b .heap) (b .blocks)
@@ -73,7 +69,7 @@ module _ (b : Board) (places : length (b .blocks) ≡ 32) (request : List ℕ) w
       let h = held-set (b .blocks) (handle - 1) c (omega arith) in
       let z = size-free (getD (b .blocks) (handle - 1) noBlock) f in
       let s : sizeIn c ≡ nthWord request 0 = ap sizeIn (k .block-is) in
-      let q : eqb (unle (le 4 handle)) 0 ≡ false = ap (λ (n : ℕ). eqb n 0) (answer-number handle (omega arith)) ∙ ne-eqb handle 0 (λ w. omega arith) in
+      let q : eqb (unle (le 4 handle)) 0 ≡ false = ap (λ (n : ℕ). eqb n 0) (unle-le 4 handle (omega arith)) ∙ ne-eqb handle 0 (λ w. omega arith) in
       let t : cond (eqb (unle (le 4 handle)) 0) 0 (nthWord request 0) ≡ nthWord request 0 = ap (λ (x : Bool). cond x 0 (nthWord request 0)) q in
       omega arith
   allocate-held Allocation.Refused e = omega arith

@@ -210,13 +210,9 @@ pub run-counted : held (lastBoard bench fourMessages .blocks) + releasedSoFar be
 run-counted = bytes-held bench bench-without fourMessages
 
 -- 4,096 + 16 + 64 bytes were granted, 4,096 released, and 80 are held
-pub run-granted : grantedSoFar bench fourMessages ≡ 4176
+pub run-counts : (grantedSoFar bench fourMessages ≡ 4176) × (releasedSoFar bench fourMessages ≡ 4096)
 unfolding reply served opened goodSize valid validFacts validState validDevice validClock validVoltage validBuffer validDisplay validMemory validHeap validBlock disjoint supported possible sides depths offsets pitch need bench numberAt trail walkFrom step overruns tagAt requestOf requestBy requestBytes rowOf table outsideTags groupTags groupOf decided nthWord turnOf outsideAnswer outsideAfter oneBit onesIn aligned lowest inside apart clearOf freeHandle fitsAt lowestAddress grants allocation placeOf handleAfter handleValue
-run-granted = refl
-
-pub run-released : releasedSoFar bench fourMessages ≡ 4096
-unfolding reply served opened goodSize valid validFacts validState validDevice validClock validVoltage validBuffer validDisplay validMemory validHeap validBlock disjoint supported possible sides depths offsets pitch need bench numberAt trail walkFrom step overruns tagAt requestOf requestBy requestBytes rowOf table outsideTags groupTags groupOf decided nthWord turnOf outsideAnswer outsideAfter oneBit onesIn aligned lowest inside apart clearOf freeHandle fitsAt lowestAddress grants allocation placeOf handleAfter handleValue
-run-released = refl
+run-counts = (refl, refl)
 
 -- ---- a record with two blocks that share the byte at 0x3C800010
 abbrev sharedByte : Board

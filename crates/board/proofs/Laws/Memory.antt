@@ -28,7 +28,7 @@ pub record Meets (s t : Span) : Type 0 where
   pub behind : t .base < s .base + s .size
   pub before : s .base < t .base + t .size
 
--- tests in a chain: one passes, or all of the others do
+-- a chain of tests with the first two and the last two exchanged
 or-swap : (a b c d : Bool) → (a || (b || (c || d))) ≡ (b || (a || (d || c)))
 or-swap true true c d = refl
 or-swap true false c d = refl
