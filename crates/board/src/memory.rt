@@ -47,16 +47,16 @@ pub fn are_apart(base: u64, size: u32, t: Span) -> bool
     requires { ⌜ base < 0x10_0000_0000 ⌝ }
     ensures { λ r. ⌜ r ≡ apart (span base size) t ⌝ }
 {
-    if size == 0 {
-        return true;
-    }
-    if t.size == 0 {
-        return true;
-    }
     if base + size as u64 <= t.base as u64 {
         return true;
     }
-    end(t) <= base
+    if end(t) <= base {
+        return true;
+    }
+    if size == 0 {
+        return true;
+    }
+    t.size == 0
 }
 
 // The bytes of a block.

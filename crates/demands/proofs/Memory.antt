@@ -125,11 +125,11 @@ module _ (b : Board) (v : valid b ≡ true) (size alignment flags : ℕ) where
 
   zero-by : RefusedFor b size alignment → handleFor b size alignment flags ≡ 0
   zero-by (inl z) = refused-zero (size-refused (b .heap) (b .blocks) size alignment flags z)
-  zero-by (inr (inl e)) = refused-zero (alignment-refused (b .heap) (b .blocks) size alignment flags {o = oneBit alignment} refl (ap not e))
+  zero-by (inr (inl e)) = refused-zero (alignment-refused (b .heap) (b .blocks) size alignment flags e)
   zero-by (inr (inr (inl t))) = go (ℕ-discrete (freeHandle (b .blocks)) 0)
     where
       go : Dec (freeHandle (b .blocks) ≡ 0) → handleFor b size alignment flags ≡ 0
-      go (yes z) = refused-zero (place-refused (b .heap) (b .blocks) size alignment flags {o = oneBit alignment} refl {h = freeHandle (b .blocks)} refl z)
+      go (yes z) = refused-zero (place-refused (b .heap) (b .blocks) size alignment flags z)
       go (no n) =
           let h = free-most (b .blocks) in
           absurd (true≢false (sym (t (freeHandle (b .blocks) - 1) (omega arith)) ∙ free-place (omega arith)))
@@ -137,9 +137,7 @@ module _ (b : Board) (v : valid b ≡ true) (size alignment flags : ℕ) where
     where
       go : Dec (size ≡ 0) → handleFor b size alignment flags ≡ 0
       go (yes z) = refused-zero (size-refused (b .heap) (b .blocks) size alignment flags z)
-      go (no p) =
-          refused-zero (address-refused (b .heap) (b .blocks) size alignment flags {o = oneBit alignment} refl {h = freeHandle (b .blocks)} refl
-          {a = lowestAddress (b .heap) (b .blocks) size alignment} refl (none-found b v size alignment (omega arith) n))
+      go (no p) = refused-zero (address-refused (b .heap) (b .blocks) size alignment flags (none-found b v size alignment (omega arith) n))
 
   -- and handle 0 has a reason
   reason-of : handleFor b size alignment flags ≡ 0 → RefusedFor b size alignment
@@ -153,8 +151,7 @@ module _ (b : Board) (v : valid b ≡ true) (size alignment flags : ℕ) where
       go (no n) true e (yes z) a = inr (inr (inl (λ i l. taken-below-free i l (λ k. absurd (omega arith)))))
       go (no n) true e (no h) (yes z) = inr (inr (inr (lowest-address b v size alignment (omega arith) .none .0 z)))
       go (no n) true e (no h) (no a) =
-          absurd (h (ap grantedHandle (is-granted (b .heap) (b .blocks) size alignment flags {o = oneBit alignment} refl {h = freeHandle (b .blocks)} refl
-          {a = lowestAddress (b .heap) (b .blocks) size alignment} refl n (ap not e) h a) ∙ q))
+          absurd (h (ap grantedHandle (is-granted (b .heap) (b .blocks) size alignment flags (omega arith) e (omega arith) (omega arith)) ∙ q))
 
   -- a handle above 0 is the lowest free one
   is-free-handle : (i : ℕ) → handleFor b size alignment flags ≡ i + 1 → freeHandle (b .blocks) ≡ i + 1

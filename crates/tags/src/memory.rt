@@ -15,7 +15,7 @@ ghost use mathlib.Core.Path.{_≡_};
 ghost use Prim.Native.Nat.{_<_};
 ghost use Rattle.words.specs.Align.{oneBit, aligned};
 ghost use Rattle.board.specs.Memory.{validHeap};
-ghost use Rattle.tags.specs.Memory.{handleCount, freeHandle, lowestAddress, allocation};
+ghost use Rattle.tags.specs.Memory.{handleCount, freeHandle, newBlock, allocation};
 ghost use Rattle.tags.specs.Memory.{withLock, handleAfter, handleValue};
 ghost use Rattle.tags.specs.Named.{Placed};
 ghost use Rattle.tags.specs.Raised.{raisedOver, Raised};
@@ -26,19 +26,18 @@ pub enum Allocation {
     Refused,
 }
 
-// The lowest handle whose place is free, 0 where all are taken.
-fn free_handle(blocks: [Block; 32]) -> u32
-    ensures { λ r. ⌜ r ≡ freeHandle blocks ⌝ }
+// A new block is not locked.
+fn new_block(base: u32, size: u32, alignment: u32, flags: u32) -> Block
+    ensures { λ r. ⌜ r ≡ newBlock base size alignment flags ⌝ }
 {
-    let mut i = 0;
-    while i < 32 {
-        let b = blocks[i];
-        if !b.taken {
-            return i as u32 + 1;
-        }
-        i += 1;
+    Block {
+        taken: true,
+        locked: false,
+        base,
+        size,
+        alignment,
+        flags,
     }
-    0
 }
 
 // The address; or, where the block at a place is in the way of `size` bytes from it on, the lowest multiple of the
@@ -53,39 +52,36 @@ fn raised_over(b: Block, address: u64, size: u32, alignment: u32) -> u64
     lowest_multiple(end(bytes_of(b)), alignment)
 }
 
-// The address raised over one block after the other.
-fn raised(blocks: [Block; 32], address: u64, size: u32, alignment: u32) -> u64
+// What a look at every place finds: the lowest handle whose place is free, 0 where all are taken; and the address,
+// raised over one block after the other.
+struct Scan {
+    handle: u32,
+    address: u64,
+}
+
+fn scan_places(blocks: [Block; 32], address: u64, size: u32, alignment: u32) -> Scan
     requires { ⌜ (oneBit alignment ≡ true) × (aligned alignment address ≡ true) × (address < 0x3_0000_0000) ⌝ }
-    ensures { λ r. ⌜ Raised blocks address size alignment r ⌝ }
+    ensures { λ r. ⌜ (r .handle ≡ freeHandle blocks) × Raised blocks address size alignment (r .address) ⌝ }
 {
+    let mut handle = 0;
     let mut a = address;
     let mut i = 0;
     while i < 32 {
-        a = raised_over(blocks[i], a, size, alignment);
+        let b = blocks[i];
+        if b.taken {
+            a = raised_over(b, a, size, alignment);
+        } else {
+            if handle == 0 {
+                handle = i as u32 + 1;
+            }
+        }
         i += 1;
     }
-    a
+    Scan { handle, address: a }
 }
 
-// The lowest address where a block fits, 0 where there is none: the lowest multiple of the alignment in the heap,
-// raised until nothing is in the way.
-fn lowest_address(heap: Span, blocks: [Block; 32], size: u32, alignment: u32) -> u32
-    requires { ⌜ (validHeap heap ≡ true) × (0 < size) × (oneBit alignment ≡ true) ⌝ }
-    ensures { λ r. ⌜ r ≡ lowestAddress heap blocks size alignment ⌝ }
-{
-    let last = end(heap);
-    let mut a = lowest_multiple(heap.base as u64, alignment);
-    while a + size as u64 <= last {
-        let next = raised(blocks, a, size, alignment);
-        if next == a {
-            return a as u32;
-        }
-        a = next;
-    }
-    0
-}
-
-// What an allocate comes to. No entry point: for a valid heap.
+// What an allocate comes to: the address is the lowest multiple of the alignment in the heap, raised until nothing is
+// in the way. No entry point: for a valid heap.
 pub fn allocate(
     heap: Span,
     blocks: [Block; 32],
@@ -102,23 +98,20 @@ pub fn allocate(
     if !one_bit(alignment) {
         return Allocation::Refused;
     }
-    let handle = free_handle(blocks);
-    if handle == 0 {
-        return Allocation::Refused;
+    let last = end(heap);
+    let mut a = lowest_multiple(heap.base as u64, alignment);
+    while a + size as u64 <= last {
+        let found = scan_places(blocks, a, size, alignment);
+        if found.address == a {
+            if found.handle == 0 {
+                return Allocation::Refused;
+            }
+            let b = new_block(a as u32, size, alignment, flags);
+            return Allocation::Granted(found.handle, b);
+        }
+        a = found.address;
     }
-    let base = lowest_address(heap, blocks, size, alignment);
-    if base == 0 {
-        return Allocation::Refused;
-    }
-    let b = Block {
-        taken: true,
-        locked: false,
-        base,
-        size,
-        alignment,
-        flags,
-    };
-    Allocation::Granted(handle, b)
+    Allocation::Refused
 }
 
 // The place of the block of a handle, 1 to 32.

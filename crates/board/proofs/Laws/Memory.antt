@@ -93,23 +93,23 @@ module _ (s t : Span) where
 
 -- ---- two runs, as the code tests them
 module _ (base size : ℕ) (t : Span) where
-  pub apart-first : size ≡ 0 → true ≡ apart (span base size) t
-  unfolding apart
-  apart-first z = rw (eq-eqb size 0 z)
+  pub apart-before : base + size ≤ t .base → true ≡ apart (span base size) t
+  apart-before l = sym (meets-not (span base size) t (λ m. let h = m .behind in absurd (omega arith)))
 
-  module _ (n : size ≡ 0 → ⊥) where
-    pub apart-second : t .size ≡ 0 → true ≡ apart (span base size) t
-    unfolding apart
-    apart-second z = rw (ne-eqb size 0 n, eq-eqb (t .size) 0 z)
+  pub apart-behind : {e : ℕ} → e ≡ t .base + t .size → e ≤ base → true ≡ apart (span base size) t
+  apart-behind ee l = sym (meets-not (span base size) t (λ m. let h = m .before in absurd (omega arith)))
 
-    module _ (n′ : t .size ≡ 0 → ⊥) where
-      pub apart-before : base + size ≤ t .base → true ≡ apart (span base size) t
-      unfolding apart
-      apart-before l = rw (ne-eqb size 0 n, ne-eqb (t .size) 0 n′, le-leb _ _ l)
+  pub apart-empty : size ≡ 0 → true ≡ apart (span base size) t
+  apart-empty z = sym (meets-not (span base size) t (λ m. let h = m .filled in absurd (omega arith)))
 
-      pub apart-rest : t .base < base + size → {e : ℕ} → e ≡ t .base + t .size → leb e base ≡ apart (span base size) t
-      unfolding apart
-      apart-rest l ee = rw (ee, ne-eqb size 0 n, ne-eqb (t .size) 0 n′, lt-leb _ _ l)
+  pub apart-rest : t .base < base + size → {e : ℕ} → e ≡ t .base + t .size → base < e → (size ≡ 0 → ⊥) → eqb (t .size) 0 ≡ apart (span base size) t
+  apart-rest l ee k n = go (ℕ-discrete (t .size) 0)
+    where
+      go : Dec (t .size ≡ 0) → eqb (t .size) 0 ≡ apart (span base size) t
+      go (yes z) = rw (eq-eqb (t .size) 0 z) (sym (meets-not (span base size) t (λ m. let h = m .filled′ in absurd (omega arith))))
+      go (no n′) =
+          rw (ne-eqb (t .size) 0 n′)
+          (sym (meets-is (span base size) t (record { filled = omega arith; filled′ = omega arith; behind = l; before = omega arith })))
 
 -- ---- a block, as the code tests it
 module _ (heap : Span) (b : Block) where

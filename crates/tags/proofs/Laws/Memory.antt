@@ -1,11 +1,11 @@
 -- Laws of GPU memory: the lowest free handle, and the search for the lowest address.
 use mathlib.Core.Bool.{Bool, true, false, not, cond, _&&_, _||_, and-eq-true-iff, and-false, true≢false}
 use mathlib.Core.List.{List}
-use mathlib.Core.Path.{_≡_, refl, sym, ap, _∙_}
+use mathlib.Core.Path.{_≡_, refl, sym, ap, ap₂, _∙_}
 use Prim.Native.Nat.{ℕ, _+_, _-_, _≤_, _<_}
 use native.Mathlib.Decide.{ℕ-discrete, decLe}
 use native.Mathlib.Omega.{arith}
-use borrow.Author.Tests.{leb-true, le-leb, ltb-true, lt-ltb, le-ltb, not-true, not-false}
+use borrow.Author.Tests.{leb-true, le-leb, ltb-true, lt-ltb, le-ltb}
 use lib.Dec.{leb, ltb}
 use lib.ListN.{length, getD}
 use Rattle.words.proofs.Laws.Align.{one-bit-least, up-above, up-aligned, up-least}
@@ -13,6 +13,7 @@ use Rattle.words.proofs.Laws.Every.{every-at, Passing, passing-from, passing-al
 use Rattle.words.proofs.Laws.Lowest.{Passed, Lowest, lowest-is, lowest-found, lowest-none}
 use Rattle.words.specs.Align.{oneBit, aligned}
 use Rattle.words.specs.Every.{every}
+use Rattle.words.specs.Lowest.{lowest}
 use Rattle.words.specs.Round.{roundUp}
 use Rattle.board.proofs.Laws.Memory.{Meets, meets-is, not-apart, clear-of-none, heap-is}
 use Rattle.board.specs.Memory.{span, inside, apart, noBlock, bytesOf, clearOf, validHeap}
@@ -23,26 +24,44 @@ use Rattle.tags.specs.Memory.{handleCount, isFree, freeHandle, fitsAt, l
 use Rattle.tags.specs.declared.memory.Allocation.{Allocation}
 use Rattle.tags.specs.Raised.{raisedOver, Raised}
 
--- ---- the lowest free handle
-module _ (blocks : List Block) (i : ℕ) where
-  at-place : {t : Bool} → not (getD blocks i noBlock .taken) ≡ t → isFree blocks (i + 1) ≡ t
-  at-place e = let z : i + 1 - 1 ≡ i = omega arith in rw z e
+-- ---- the lowest free handle, as a scan finds it: that of the places before i, 0 where all of them are taken
+pub record FirstFree (blocks : List Block) (handle i : ℕ) : Type 0 where
+  pub none : handle ≡ 0 → Passed (isFree blocks) 1 (i + 1)
+  pub some : (handle ≡ 0 → ⊥) → handle ≡ freeHandle blocks
 
-  module _ (before : Passed (isFree blocks) 1 (i + 1)) where
-    pub free-found : i < 32 → not (getD blocks i noBlock .taken) ≡ true → i + 1 ≡ freeHandle blocks
-    unfolding freeHandle
-    free-found l e = lowest-found (isFree blocks) handleCount 1 (omega arith) (i + 1) (omega arith) (omega arith) (at-place e) before
+pub first-start : (blocks : List Block) → FirstFree blocks 0 0
+first-start blocks = record { none = λ _ y l _. l; some = λ n. absurd (n refl) }
 
-    pub free-on : not (getD blocks i noBlock .taken) ≡ false → Passed (isFree blocks) 1 (i + 1 + 1)
-    free-on e y l t = go (ℕ-discrete y (i + 1))
-      where
-        go : Dec (y ≡ i + 1) → i + 1 + 1 ≤ y
-        go (yes q) = absurd (true≢false (sym t ∙ ap (isFree blocks) q ∙ at-place e))
-        go (no q) = let h = before y l t in omega arith
+at-place : (blocks : List Block) (i : ℕ) {t : Bool} → getD blocks i noBlock .taken ≡ t → isFree blocks (i + 1) ≡ not t
+at-place blocks i e = let z : i + 1 - 1 ≡ i = omega arith in rw z (ap not e)
 
-    pub free-none : 32 ≤ i → 0 ≡ freeHandle blocks
-    unfolding freeHandle
-    free-none l = lowest-none (isFree blocks) handleCount 1 (omega arith) (λ y k t. let h = before y k t in omega arith)
+module _ (blocks : List Block) {handle i : ℕ} (s : FirstFree blocks handle i) where
+  pub first-taken : getD blocks i noBlock .taken ≡ true → {h : ℕ} → h ≡ handle → FirstFree blocks h (i + 1)
+  first-taken t e = record { none = λ z y l f. go y l f (s .none (sym e ∙ z)) (ℕ-discrete y (i + 1)); some = λ n. e ∙ s .some (λ z. n (e ∙ z)) }
+    where
+      go : (y : ℕ) → 1 ≤ y → isFree blocks y ≡ true → Passed (isFree blocks) 1 (i + 1) → Dec (y ≡ i + 1) → i + 1 + 1 ≤ y
+      go y l f b (yes q) = absurd (true≢false (sym f ∙ ap (isFree blocks) q ∙ at-place blocks i t))
+      go y l f b (no q) = let k = b y l f in omega arith
+
+  pub first-found : i < 32 → getD blocks i noBlock .taken ≡ false → handle ≡ 0 → {h : ℕ} → h ≡ i + 1 → FirstFree blocks h (i + 1)
+  unfolding freeHandle
+  first-found l t z e =
+      record {
+        none = λ n. absurd (omega arith);
+        some = λ _. e
+            ∙ lowest-found (isFree blocks) handleCount 1 (omega arith) (i + 1) (omega arith) (omega arith) (at-place blocks i t) (s .none z);
+      }
+
+  pub first-kept : (handle ≡ 0 → ⊥) → {h : ℕ} → h ≡ handle → FirstFree blocks h (i + 1)
+  first-kept n e = record { none = λ z. absurd (n (sym e ∙ z)); some = λ _. e ∙ s .some n }
+
+pub first-all : (blocks : List Block) {handle i : ℕ} → FirstFree blocks handle i → 32 ≤ i → handle ≡ freeHandle blocks
+unfolding freeHandle
+first-all blocks {handle} {i} s l = go (ℕ-discrete handle 0)
+  where
+    go : Dec (handle ≡ 0) → handle ≡ lowest (isFree blocks) handleCount 1
+    go (yes z) = z ∙ lowest-none (isFree blocks) handleCount 1 (omega arith) (λ y k t. let h = s .none z y k t in omega arith)
+    go (no n) = s .some n
 
 pub free-is : (blocks : List Block) → Lowest (isFree blocks) handleCount 1 (freeHandle blocks)
 unfolding freeHandle
@@ -111,6 +130,11 @@ pub raised-behind : (b : Block) (address size alignment : ℕ) {t : Bool} → t 
 raised-behind b address size alignment et n es ee er =
     rw (← et, n) (er ∙ ap (roundUp alignment) (ee ∙ ap (λ (x : Span). x .base + x .size) es))
 
+pub raised-free : (b : Block) (address size alignment : ℕ) → b .taken ≡ false → address ≡ raisedOver b address size alignment
+unfolding clearOf
+raised-free b address size alignment e =
+    ap (λ (t : Bool). cond (not t || apart (span address size) (bytesOf b)) address (roundUp alignment (b .base + b .size))) (sym e)
+
 -- ---- the address raised over one block after the other: those before i are not in its way, unless it has been raised
 pub record Raising (blocks : List Block) (address size alignment a i : ℕ) : Type 0 where
   pub even : aligned alignment a ≡ true
@@ -175,6 +199,34 @@ module _ (blocks : List Block) (address size alignment : ℕ) where
               ahead = λ q. absurd (omega (arith, s .above));
             }
 
+-- ---- what an allocate comes to, as the code tests it: refused for each of four reasons, else granted
+module _ (heap : Span) (blocks : List Block) (size alignment flags : ℕ) where
+  not-granted : grants heap blocks size alignment ≡ false → Allocation.Refused ≡ allocation heap blocks size alignment flags
+  unfolding allocation
+  not-granted e = rw e
+
+  pub size-refused : size ≡ 0 → Allocation.Refused ≡ allocation heap blocks size alignment flags
+  unfolding grants
+  size-refused z = not-granted (rw (le-ltb 0 size (omega arith)))
+
+  pub alignment-refused : oneBit alignment ≡ false → Allocation.Refused ≡ allocation heap blocks size alignment flags
+  unfolding grants
+  alignment-refused e = not-granted (rw (e, and-false))
+
+  pub place-refused : freeHandle blocks ≡ 0 → Allocation.Refused ≡ allocation heap blocks size alignment flags
+  unfolding grants
+  place-refused z = not-granted (rw (le-ltb 0 (freeHandle blocks) (omega arith), and-false))
+
+  pub address-refused : lowestAddress heap blocks size alignment ≡ 0 → Allocation.Refused ≡ allocation heap blocks size alignment flags
+  unfolding grants
+  address-refused z = not-granted (rw (le-ltb 0 (lowestAddress heap blocks size alignment) (omega arith), and-false))
+
+  pub is-granted : 0 < size → oneBit alignment ≡ true → 0 < freeHandle blocks → 0 < lowestAddress heap blocks size alignment
+      → Allocation.Granted (freeHandle blocks) (newBlock (lowestAddress heap blocks size alignment) size alignment flags)
+      ≡ allocation heap blocks size alignment flags
+  unfolding grants allocation
+  is-granted p o h a = rw (lt-ltb 0 size p, o, lt-ltb 0 (freeHandle blocks) h, lt-ltb 0 (lowestAddress heap blocks size alignment) a)
+
 -- ---- the search, from a₀ on: no address below a fitsAt
 pub record Searching (blocks : List Block) (last size alignment a₀ a : ℕ) : Type 0 where
   pub even : aligned alignment a ≡ true
@@ -204,21 +256,31 @@ module _ (heap : Span) (blocks : List Block) (size alignment : ℕ) (v : validHe
       let h : a₀ ≤ y = rw e₀ (up-least alignment (heap .base) (one-bit-least alignment o) y (f .even) (f .first)) in
       s .passed y h (f .even) (rw el (f .last)) (f .alone)
 
+  low : heap .base ≤ a
+  low = omega (arith, s .least, up-above alignment (heap .base) (one-bit-least alignment o))
+
   pub address-found : a + size ≤ last → {r : ℕ} → Raised blocks a size alignment r → r ≡ a → a ≡ lowestAddress heap blocks size alignment
   unfolding lowestAddress
   address-found l w e =
       let k = heap-is heap v in
-      let low : heap .base ≤ a = omega (arith, s .least, up-above alignment (heap .base) (one-bit-least alignment o)) in
       lowest-found (fitsAt heap blocks size alignment) (heap .size) (heap .base) (k .first) a low (omega arith)
       (fits-by heap blocks size alignment a (record { even = s .even; first = low; last = omega arith; alone = w .stays e }))
       (λ y _ t. before y t)
 
-  pub address-none : last < a + size → 0 ≡ lowestAddress heap blocks size alignment
+  pub address-none : last < a + size → lowestAddress heap blocks size alignment ≡ 0
   unfolding lowestAddress
   address-none l =
       let k = heap-is heap v in
-      lowest-none (fitsAt heap blocks size alignment) (heap .size) (heap .base) (k .first)
-      (λ y _ t. let f = fits-is heap blocks size alignment y t .last in let b = before y t in absurd (omega arith))
+      sym (lowest-none (fitsAt heap blocks size alignment) (heap .size) (heap .base) (k .first)
+      (λ y _ t. let f = fits-is heap blocks size alignment y t .last in let b = before y t in absurd (omega arith)))
+
+  pub search-granted : (flags : ℕ) → a + size ≤ last → {h r : ℕ} → h ≡ freeHandle blocks → Raised blocks a size alignment r → (h ≡ 0 → ⊥) → r ≡ a
+      → {b : Block} → b ≡ newBlock a size alignment flags → Allocation.Granted h b ≡ allocation heap blocks size alignment flags
+  search-granted flags l eh w n e eb =
+      let k = heap-is heap v .first in
+      let ea = address-found l w e in
+      ap₂ (λ (x : ℕ) (y : Block). Allocation.Granted x y) eh (eb ∙ ap (λ (x : ℕ). newBlock x size alignment flags) ea)
+      ∙ is-granted heap blocks size alignment flags p o (omega arith) (omega (arith, low))
 
 -- ---- the address that is found
 module _ (heap : Span) (blocks : List Block) (size alignment : ℕ) (v : validHeap heap ≡ true) where
@@ -226,37 +288,8 @@ module _ (heap : Span) (blocks : List Block) (size alignment : ℕ) (v : validHe
   unfolding lowestAddress
   address-is = lowest-is (fitsAt heap blocks size alignment) (heap .size) (heap .base) (heap-is heap v .first)
 
--- ---- what an allocate comes to, as the code tests it
+-- ---- what is granted
 module _ (heap : Span) (blocks : List Block) (size alignment flags : ℕ) where
-  not-granted : grants heap blocks size alignment ≡ false → Allocation.Refused ≡ allocation heap blocks size alignment flags
-  unfolding allocation
-  not-granted e = rw e
-
-  pub size-refused : size ≡ 0 → Allocation.Refused ≡ allocation heap blocks size alignment flags
-  unfolding grants
-  size-refused z = not-granted (rw (le-ltb 0 size (omega arith)))
-
-  module _ {o : Bool} (eo : o ≡ oneBit alignment) where
-    pub alignment-refused : not o ≡ true → Allocation.Refused ≡ allocation heap blocks size alignment flags
-    unfolding grants
-    alignment-refused e = not-granted (rw (← eo, not-true o e, and-false))
-
-    module _ {h : ℕ} (eh : h ≡ freeHandle blocks) where
-      pub place-refused : h ≡ 0 → Allocation.Refused ≡ allocation heap blocks size alignment flags
-      unfolding grants
-      place-refused z = not-granted (rw (← eh, le-ltb 0 h (omega arith), and-false))
-
-      module _ {a : ℕ} (ea : a ≡ lowestAddress heap blocks size alignment) where
-        pub address-refused : a ≡ 0 → Allocation.Refused ≡ allocation heap blocks size alignment flags
-        unfolding grants
-        address-refused z = not-granted (rw (← ea, le-ltb 0 a (omega arith), and-false))
-
-        pub is-granted : (size ≡ 0 → ⊥) → not o ≡ false → (h ≡ 0 → ⊥) → (a ≡ 0 → ⊥)
-            → Allocation.Granted h (newBlock a size alignment flags) ≡ allocation heap blocks size alignment flags
-        unfolding grants allocation
-        is-granted ns e nh na =
-            rw (lt-ltb 0 size (omega arith), ← eo, not-false o e, ← eh, lt-ltb 0 h (omega arith), ← ea, lt-ltb 0 a (omega arith))
-
   -- what is granted, as plain facts
   pub record Grant (handle : ℕ) (b : Block) : Type 0 where
     pub filled : 0 < size

@@ -1,6 +1,6 @@
 use mathlib.Core.Path.{sym, _∙_}
 use native.Mathlib.Omega.{arith}
-use Rattle.words.proofs.Laws.Align.{one-bit-least, up-below}
+use Rattle.words.proofs.Laws.Align.{one-bit-least, one-bit-one, up-below}
 use Rattle.tags.proofs.Laws.Memory.{raised-behind}
 use borrow.Author.Needs.{needs}
 use Rattle.tags.proofs.memory.raised_over.Statement.{statement}
@@ -23,4 +23,4 @@ returns-2 c =
 pub raised-over-spec : {M : Type 1} → statement M
 raised-over-spec =
     tie.close
-    (tie.spec (search needs) returns (search needs) (search needs) (λ c κs. (search needs, c .end .ensures .1)) returns-2)
+    (tie.spec (search needs) returns (search needs) (search needs) (λ c κs. (search (needs, one-bit-one), c .end .ensures .1)) returns-2)
