@@ -79,6 +79,8 @@ pub fn serve_tags(board: Board, msg: &mut [u8], size: usize, group: Decision) ->
 {
     let mut b = board;
     let display = b.display;
+    // No tag changes where the heap lies.
+    let heap = b.heap;
     let mut operation = no_tag_yet(display.settings);
     let mut p = Message::HEADER;
     loop {
@@ -133,7 +135,7 @@ pub fn serve_tags(board: Board, msg: &mut [u8], size: usize, group: Decision) ->
                         put_pair(msg, tag.at, tag.size, id, n);
                     }
                     OutsideTag::Allocate => {
-                        let allocation = allocate(b.heap, b.blocks, id, x, nth_word(request, 2));
+                        let allocation = allocate(heap, b.blocks, id, x, nth_word(request, 2));
                         let Allocation::Granted(handle, block) = allocation else {
                             put_word(msg, tag.at, tag.size, 0);
                             p = next;

@@ -18,7 +18,6 @@ use Rattle.message.specs.Walk.{step, endingOf}
 use Rattle.message.specs.declared.walk.Ending.{Ending}
 use Rattle.message.specs.declared.walk.Step.{Step}
 use Rattle.message.specs.declared.walk.Tag.{Tag}
-use Rattle.board.specs.Memory.{validHeap}
 use Rattle.board.specs.declared.record.Board.{Board}
 use Rattle.table.specs.declared.kinds.FrameTag.{FrameTag}
 use Rattle.table.specs.declared.kinds.Kind.{Kind}
@@ -79,13 +78,13 @@ pub record Ahead (g : Decision) (m₀ : List ℕ) (size : ℕ) (b₀ : Board) (m
   pub walking : Walking m size p
   pub same : length m ≡ length m₀
   pub rest : drop p m ≡ drop p m₀
-  pub heap-valid : validHeap (b .heap) ≡ true
+  pub heap-same : b .heap ≡ b₀ .heap
   pub serves : trailServed g b o (trail m₀ size p) m ≡ tagsServed g b₀ m₀ size
 
-pub serve-start : (g : Decision) (m₀ : List ℕ) (size : ℕ) (b₀ : Board) {o : Operation} → Walking m₀ size header → validHeap (b₀ .heap) ≡ true
+pub serve-start : (g : Decision) (m₀ : List ℕ) (size : ℕ) (b₀ : Board) {o : Operation} → Walking m₀ size header
     → o ≡ unasked (b₀ .display .settings) → Ahead g m₀ size b₀ m₀ b₀ o header
-serve-start g m₀ size b₀ w v e =
-    record { walking = w; same = refl; rest = refl; heap-valid = v; serves = ap (λ (x : Operation). trailServed g b₀ x (trail m₀ size header) m₀) e }
+serve-start g m₀ size b₀ w e =
+    record { walking = w; same = refl; rest = refl; heap-same = refl; serves = ap (λ (x : Operation). trailServed g b₀ x (trail m₀ size header) m₀) e }
 
 module _ (g : Decision) (m₀ : List ℕ) (size : ℕ) (b₀ : Board) (m : List ℕ) (b : Board) (o : Operation) (p : ℕ) (h : Ahead g m₀ size b₀ m b o p) {st : Step}
     (es : st ≡ step m size p) where
@@ -146,7 +145,7 @@ module _ (g : Decision) (m₀ : List ℕ) (size : ℕ) (b₀ : Board) (m : List 
           record {
             walking = walking-on m m′ size p (h .walking) f same;
             same = same ∙ h .same;
-            heap-valid = ap (λ (x : Board). validHeap (x .heap)) (c .left) ∙ ap validHeap (turn-heap g b r) ∙ h .heap-valid;
+            heap-same = ap (λ (x : Board). x .heap) (c .left) ∙ turn-heap g b r ∙ h .heap-same;
             rest = ap (drop next) em ∙ written-behind t s m next (omega arith) ∙ drop-later p next m m₀ (omega arith) (h .rest);
             serves = rw (w, c .left, c .noted) (ap (λ (x : Trail). trailServed g b o x m) (sym tr) ∙ h .serves);
           }

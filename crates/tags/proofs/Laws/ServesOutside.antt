@@ -11,6 +11,7 @@ use Rattle.board.specs.Record.{withDevices, withClocks, withVoltages, withBlock
 use Rattle.board.specs.declared.items.Clock.{Clock}
 use Rattle.board.specs.declared.items.Device.{Device}
 use Rattle.board.specs.declared.items.Voltage.{Voltage}
+use Rattle.board.specs.declared.facts.Span.{Span}
 use Rattle.board.specs.declared.memory.Block.{Block}
 use Rattle.board.specs.declared.record.Board.{Board}
 use Rattle.table.specs.declared.kinds.ClockTag.{ClockTag}
@@ -72,9 +73,10 @@ module _ (request : List ℕ) (b : Board) {a x : ℕ} (ea : a ≡ idOf request) 
     serves-temperature ek e = rw ek (record { says = rw (e, ea); left = refl })
 
     -- an allocate, with its third word
-    module _ (ek : k ≡ OutsideTag.Allocate) {f : ℕ} (ef : f ≡ nthWord request 2) {g : Allocation} (eg : g ≡ allocation (b .heap) (b .blocks) a x f) where
+    module _ (ek : k ≡ OutsideTag.Allocate) {f : ℕ} (ef : f ≡ nthWord request 2) {h : Span} (eh : b .heap ≡ h) {g : Allocation}
+        (eg : g ≡ allocation h (b .blocks) a x f) where
       came-to : g ≡ allocationOf request (b .heap) (b .blocks)
-      came-to = rw (eg, ea, ex, ef)
+      came-to = rw (eg, ← eh, ea, ex, ef)
 
       pub serves-refused : g ≡ Allocation.Refused → Serves k request b (le 4 0) b
       unfolding outsideAnswer outsideAfter

@@ -11,13 +11,13 @@ use Rattle.responder.proofs.walk.serve_tags.Statement.{statement}
 use Rattle.responder.proofs.walk.serve_tags.Tie as tie
 
 abbrev Inv-loop : tie.InvT-loop
-Inv-loop msg₀ size group b₀ operation₀ p₀ msg b operation p = Ahead group msg₀ size b₀ msg b operation p
+Inv-loop msg₀ size group b₀ heap operation₀ p₀ msg b operation p = Ahead group msg₀ size b₀ msg b operation p
 
 abbrev μ-loop : tie.MeasureT-loop
-μ-loop msg₀ size group b₀ operation₀ p₀ msg b operation p = size - p
+μ-loop msg₀ size group b₀ heap operation₀ p₀ msg b operation p = size - p
 
 loop-holds : tie.Need-loop-holds Inv-loop μ-loop
-loop-holds c = serve-start _ _ _ _ (c .before .before .before .pre .0) (c .before .before .before .pre .1) (c .no-tag-yet .ensures)
+loop-holds c = serve-start _ _ _ _ (c .before .before .before .before .pre .0) (c .no-tag-yet .ensures)
 
 returns : tie.Need-returns Inv-loop μ-loop
 returns c =
@@ -185,31 +185,32 @@ put-pair-requires-4 c κs =
 
 allocate-requires : tie.Need-allocate-requires Inv-loop μ-loop
 allocate-requires c κs =
-    let at-item = c .before .before .before .before .before .before .before .before in
+    let at-item = c .before .before .before .before .before .before .before in
     let at-tag = at-item .before .before .before .before .before .before .before .before .before .before .before .before in
-    at-tag .before .before .before .before .loop .inv .heap-valid
+    at-tag .before .before .before .before .before .before .before .before .before .pre .1
 
 put-word-requires : tie.Need-put-word-requires Inv-loop μ-loop
 put-word-requires c κs =
-    let at-item = c .before .before .before .before .before .before .before .before .before .before .before .before in
+    let at-item = c .before .before .before .before .before .before .before .before .before .before .before in
     ask-at-requires (at-item .before .before .before .before .before .before .before .before .before .before) κs
 
 loop-less-2 : tie.Need-loop-less-2 Inv-loop μ-loop
 loop-less-2 c =
-    let at-item = c .before .before .before .before .before .before .before .before .before .before .before .before .before .before .before in
+    let at-item = c .before .before .before .before .before .before .before .before .before .before .before .before .before .before in
     let at-tag = at-item .before .before .before .before .before .before .before .before .before .before .before .before in
     serve-less _ _ _ _ _ _ _ _ (at-tag .before .before .before .before .loop .inv) (at-tag .before .before .step-at .ensures) (at-tag .st .given .1)
 
 loop-again-2 : tie.Need-loop-again-2 Inv-loop μ-loop
 loop-again-2 c =
     let at-call = c .before .before .before .before .before .before in
-    let at-item = at-call .before .before .before .before .before .before .before .before .before in
+    let at-item = at-call .before .before .before .before .before .before .before .before in
     let at-ask = at-item .before .before .before .before .before .before .before .before .before in
     let at-tag = at-ask .before .before .before in
     serve-outside _ _ _ _ _ _ _ _ (at-tag .before .before .before .before .loop .inv) (at-tag .before .before .step-at .ensures)
     (at-tag .st .given .1) (at-ask .ask-at .ensures) (at-item .before .before .before .before .before .before .ask2 .given .1)
     (serves-refused _ _ (at-item .before .before .nth-word .ensures) (at-item .before .nth-word2 .ensures)
-    (at-call .before .before .before .before .enum-told4 .given .1) (at-call .before .nth-word3 .ensures) (at-call .allocate .ensures)
+    (at-call .before .before .before .enum-told4 .given .1) (at-call .before .nth-word3 .ensures)
+    (at-tag .before .before .before .before .loop .inv .heap-same) (at-call .allocate .ensures)
     (c .before .before .before .before .enum-told5 .given .1))
     (c .before .before .put-word .ensures)
 
@@ -226,7 +227,7 @@ mul-block c = let h = element-set-from-block c in search needs
 
 put-word-requires-2 : tie.Need-put-word-requires-2 Inv-loop μ-loop
 put-word-requires-2 c κs =
-    let at-item = c .before .before .before .before .before .before .before .before .before .before .before .before .before in
+    let at-item = c .before .before .before .before .before .before .before .before .before .before .before .before in
     ask-at-requires (at-item .before .before .before .before .before .before .before .before .before .before) κs
 
 element-copy-out-block : tie.Need-element-copy-out-block Inv-loop μ-loop
@@ -363,20 +364,21 @@ loop-again-9 c =
 
 loop-less-10 : tie.Need-loop-less-10 Inv-loop μ-loop
 loop-less-10 c =
-    let at-item = c .before .before .before .before .before .before .before .before .before .before .before .before .before .before .before .before in
+    let at-item = c .before .before .before .before .before .before .before .before .before .before .before .before .before .before .before in
     let at-tag = at-item .before .before .before .before .before .before .before .before .before .before .before .before in
     serve-less _ _ _ _ _ _ _ _ (at-tag .before .before .before .before .loop .inv) (at-tag .before .before .step-at .ensures) (at-tag .st .given .1)
 
 loop-again-10 : tie.Need-loop-again-10 Inv-loop μ-loop
 loop-again-10 c =
     let at-call = c .before .before .before .before .before .before .before in
-    let at-item = at-call .before .before .before .before .before .before .before .before .before in
+    let at-item = at-call .before .before .before .before .before .before .before .before in
     let at-ask = at-item .before .before .before .before .before .before .before .before .before in
     let at-tag = at-ask .before .before .before in
     serve-outside _ _ _ _ _ _ _ _ (at-tag .before .before .before .before .loop .inv) (at-tag .before .before .step-at .ensures)
     (at-tag .st .given .1) (at-ask .ask-at .ensures) (at-item .before .before .before .before .before .before .ask2 .given .1)
     (serves-granted _ _ (at-item .before .before .nth-word .ensures) (at-item .before .nth-word2 .ensures)
-    (at-call .before .before .before .before .enum-told4 .given .1) (at-call .before .nth-word3 .ensures) (at-call .allocate .ensures)
+    (at-call .before .before .before .enum-told4 .given .1) (at-call .before .nth-word3 .ensures)
+    (at-tag .before .before .before .before .loop .inv .heap-same) (at-call .allocate .ensures)
     (c .before .before .before .before .before .allocation .given .1) refl)
     (c .before .before .put-word2 .ensures)
 
