@@ -26,18 +26,18 @@ use Rattle.tags.specs.Raised.{raisedOver, Raised}
 
 -- ---- the lowest free handle, as a scan finds it: that of the places before i, 0 where all of them are taken
 pub record FirstFree (blocks : List Block) (handle i : ℕ) : Type 0 where
-  pub none : handle ≡ 0 → Passed (isFree blocks) 1 (i + 1)
-  pub some : (handle ≡ 0 → ⊥) → handle ≡ freeHandle blocks
+  pub none-free : handle ≡ 0 → Passed (isFree blocks) 1 (i + 1)
+  pub found : (handle ≡ 0 → ⊥) → handle ≡ freeHandle blocks
 
 pub first-start : (blocks : List Block) → FirstFree blocks 0 0
-first-start blocks = record { none = λ _ y l _. l; some = λ n. absurd (n refl) }
+first-start blocks = record { none-free = λ _ y l _. l; found = λ n. absurd (n refl) }
 
 at-place : (blocks : List Block) (i : ℕ) {t : Bool} → getD blocks i noBlock .taken ≡ t → isFree blocks (i + 1) ≡ not t
 at-place blocks i e = let z : i + 1 - 1 ≡ i = omega arith in rw z (ap not e)
 
 module _ (blocks : List Block) {handle i : ℕ} (s : FirstFree blocks handle i) where
   pub first-taken : getD blocks i noBlock .taken ≡ true → {h : ℕ} → h ≡ handle → FirstFree blocks h (i + 1)
-  first-taken t e = record { none = λ z y l f. go y l f (s .none (sym e ∙ z)) (ℕ-discrete y (i + 1)); some = λ n. e ∙ s .some (λ z. n (e ∙ z)) }
+  first-taken t e = record { none-free = λ z y l f. go y l f (s .none-free (sym e ∙ z)) (ℕ-discrete y (i + 1)); found = λ n. e ∙ s .found (λ z. n (e ∙ z)) }
     where
       go : (y : ℕ) → 1 ≤ y → isFree blocks y ≡ true → Passed (isFree blocks) 1 (i + 1) → Dec (y ≡ i + 1) → i + 1 + 1 ≤ y
       go y l f b (yes q) = absurd (true≢false (sym f ∙ ap (isFree blocks) q ∙ at-place blocks i t))
@@ -47,21 +47,21 @@ module _ (blocks : List Block) {handle i : ℕ} (s : FirstFree blocks handle i) 
   unfolding freeHandle
   first-found l t z e =
       record {
-        none = λ n. absurd (omega arith);
-        some = λ _. e
-            ∙ lowest-found (isFree blocks) handleCount 1 (omega arith) (i + 1) (omega arith) (omega arith) (at-place blocks i t) (s .none z);
+        none-free = λ n. absurd (omega arith);
+        found = λ _. e
+            ∙ lowest-found (isFree blocks) handleCount 1 (omega arith) (i + 1) (omega arith) (omega arith) (at-place blocks i t) (s .none-free z);
       }
 
   pub first-kept : (handle ≡ 0 → ⊥) → {h : ℕ} → h ≡ handle → FirstFree blocks h (i + 1)
-  first-kept n e = record { none = λ z. absurd (n (sym e ∙ z)); some = λ _. e ∙ s .some n }
+  first-kept n e = record { none-free = λ z. absurd (n (sym e ∙ z)); found = λ _. e ∙ s .found n }
 
 pub first-all : (blocks : List Block) {handle i : ℕ} → FirstFree blocks handle i → 32 ≤ i → handle ≡ freeHandle blocks
 unfolding freeHandle
 first-all blocks {handle} {i} s l = go (ℕ-discrete handle 0)
   where
     go : Dec (handle ≡ 0) → handle ≡ lowest (isFree blocks) handleCount 1
-    go (yes z) = z ∙ lowest-none (isFree blocks) handleCount 1 (omega arith) (λ y k t. let h = s .none z y k t in omega arith)
-    go (no n) = s .some n
+    go (yes z) = z ∙ lowest-none (isFree blocks) handleCount 1 (omega arith) (λ y k t. let h = s .none-free z y k t in omega arith)
+    go (no n) = s .found n
 
 pub free-is : (blocks : List Block) → Lowest (isFree blocks) handleCount 1 (freeHandle blocks)
 unfolding freeHandle
@@ -256,15 +256,15 @@ module _ (heap : Span) (blocks : List Block) (size alignment : ℕ) (v : validHe
       let h : a₀ ≤ y = rw e₀ (up-least alignment (heap .base) (one-bit-least alignment o) y (f .even) (f .first)) in
       s .passed y h (f .even) (rw el (f .last)) (f .alone)
 
-  low : heap .base ≤ a
-  low = omega (arith, s .least, up-above alignment (heap .base) (one-bit-least alignment o))
+  from-base : heap .base ≤ a
+  from-base = omega (arith, s .least, up-above alignment (heap .base) (one-bit-least alignment o))
 
   pub address-found : a + size ≤ last → {r : ℕ} → Raised blocks a size alignment r → r ≡ a → a ≡ lowestAddress heap blocks size alignment
   unfolding lowestAddress
   address-found l w e =
       let k = heap-is heap v in
-      lowest-found (fitsAt heap blocks size alignment) (heap .size) (heap .base) (k .first) a low (omega arith)
-      (fits-by heap blocks size alignment a (record { even = s .even; first = low; last = omega arith; alone = w .stays e }))
+      lowest-found (fitsAt heap blocks size alignment) (heap .size) (heap .base) (k .first) a from-base (omega arith)
+      (fits-by heap blocks size alignment a (record { even = s .even; first = from-base; last = omega arith; alone = w .stays e }))
       (λ y _ t. before y t)
 
   pub address-none : last < a + size → lowestAddress heap blocks size alignment ≡ 0
@@ -280,7 +280,7 @@ module _ (heap : Span) (blocks : List Block) (size alignment : ℕ) (v : validHe
       let k = heap-is heap v .first in
       let ea = address-found l w e in
       ap₂ (λ (x : ℕ) (y : Block). Allocation.Granted x y) eh (eb ∙ ap (λ (x : ℕ). newBlock x size alignment flags) ea)
-      ∙ is-granted heap blocks size alignment flags p o (omega arith) (omega (arith, low))
+      ∙ is-granted heap blocks size alignment flags p o (omega arith) (omega (arith, from-base))
 
 -- ---- the address that is found
 module _ (heap : Span) (blocks : List Block) (size alignment : ℕ) (v : validHeap heap ≡ true) where
@@ -288,9 +288,8 @@ module _ (heap : Span) (blocks : List Block) (size alignment : ℕ) (v : validHe
   unfolding lowestAddress
   address-is = lowest-is (fitsAt heap blocks size alignment) (heap .size) (heap .base) (heap-is heap v .first)
 
--- ---- what is granted
+-- ---- what is granted, as plain facts
 module _ (heap : Span) (blocks : List Block) (size alignment flags : ℕ) where
-  -- what is granted, as plain facts
   pub record Grant (handle : ℕ) (b : Block) : Type 0 where
     pub filled : 0 < size
     pub single : oneBit alignment ≡ true
