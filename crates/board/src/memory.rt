@@ -6,7 +6,7 @@ use crate::facts::Span;
 
 // A block, where the place is taken. Where it is free the rest says nothing.
 #[repr(C)]
-#[derive(Drop)]
+#[derive(Clone, Copy)]
 pub struct Block {
     pub taken: bool,
     pub locked: bool,

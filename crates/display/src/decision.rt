@@ -12,7 +12,7 @@ use words::align::{lowest_multiple, one_bit};
 
 // Whether the group's tags are answered, whether the operation was accepted, the settings, the pitch and the
 // buffer that they answer, and the display afterwards.
-#[derive(Drop)]
+#[derive(Clone, Copy)]
 pub struct Decision {
     pub answered: bool,
     pub accepted: bool,

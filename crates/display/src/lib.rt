@@ -1,4 +1,6 @@
 // The frame buffer group as one operation.
+#![tactic(auto)]
+
 pub mod answer;
 pub mod decision;
 pub mod operation;

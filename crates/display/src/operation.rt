@@ -8,7 +8,7 @@ use words::numbers::nth_word;
 
 // What the group tags come to: whether there are tests, and others; the settings that they propose,
 // later over earlier; the last allocate's alignment; a release.
-#[derive(Drop)]
+#[derive(Clone, Copy)]
 pub struct Operation {
     pub tests: bool,
     pub others: bool,

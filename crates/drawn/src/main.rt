@@ -1,5 +1,7 @@
 // The cases that are run rather than proved. What this program writes is compared with its file
 // `stdout`; its file `stdin` has the messages that it serves.
+#![tactic(auto)]
+
 mod answered;
 mod blocks;
 mod built;

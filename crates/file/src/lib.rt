@@ -1,3 +1,5 @@
 // A message file, served on the bench record.
+#![tactic(auto)]
+
 pub mod bytes;
 pub mod serve;

@@ -10,7 +10,7 @@ use table::kinds::{FrameTag, Kind, OutsideTag};
 use table::rows::{Row, row_of};
 
 // What a tag asks, outside the frame buffer group or of it, and how many bytes of its value are its request.
-#[derive(Drop)]
+#[derive(Clone, Copy)]
 pub enum Ask {
     Pass,
     Short,

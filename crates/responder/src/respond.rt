@@ -22,7 +22,7 @@ use message::outcome;
 use words::numbers::{put_u32, u32_at};
 
 // How a message was served, and the record afterwards.
-#[derive(Drop)]
+#[derive(Clone, Copy)]
 pub struct Served {
     pub outcome: u32,
     pub place: usize,

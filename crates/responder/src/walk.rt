@@ -29,7 +29,7 @@ use tags::voltage::{voltage_after, voltage_value};
 use words::numbers::nth_word;
 
 // How a walk ended, the operation that the group's tags come to, and the record that it left.
-#[derive(Drop)]
+#[derive(Clone, Copy)]
 pub struct TagsServed {
     pub ending: Ending,
     pub operation: Operation,

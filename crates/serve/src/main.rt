@@ -1,4 +1,6 @@
 // Serves the message file that the first argument names, on the bench record.
+#![tactic(auto)]
+
 use file::serve::serve_file;
 use libc::STDERR_FILENO;
 

@@ -1,4 +1,6 @@
 // Serves message files, and writes out what they hold afterwards.
+#![tactic(auto)]
+
 use file::serve::serve_file;
 
 // A file one byte longer than a message may be, that begins as a message of 12 bytes.

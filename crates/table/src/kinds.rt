@@ -1,5 +1,5 @@
 // What the tags of the table ask, by family.
-#[derive(Drop)]
+#[derive(Clone, Copy)]
 pub enum FactTag {
     Firmware,
     Model,
@@ -12,14 +12,14 @@ pub enum FactTag {
     Dma,
 }
 
-#[derive(Drop)]
+#[derive(Clone, Copy)]
 pub enum PowerTag {
     State,
     Timing,
     SetState,
 }
 
-#[derive(Drop)]
+#[derive(Clone, Copy)]
 pub enum ClockTag {
     State,
     SetState,
@@ -29,7 +29,7 @@ pub enum ClockTag {
     SetRate,
 }
 
-#[derive(Drop)]
+#[derive(Clone, Copy)]
 pub enum VoltageTag {
     Get,
     Set,
@@ -37,21 +37,21 @@ pub enum VoltageTag {
     Min,
 }
 
-#[derive(Drop)]
+#[derive(Clone, Copy)]
 pub enum TemperatureTag {
     Current,
     Max,
 }
 
 // What a tag asks of the block of a handle.
-#[derive(Drop)]
+#[derive(Clone, Copy)]
 pub enum HandleTag {
     Lock,
     Unlock,
     Release,
 }
 
-#[derive(Drop)]
+#[derive(Clone, Copy)]
 pub enum Setting {
     Physical,
     Virtual,
@@ -62,7 +62,7 @@ pub enum Setting {
 }
 
 // What a tag of the frame buffer group asks.
-#[derive(Drop)]
+#[derive(Clone, Copy)]
 pub enum FrameTag {
     Get(Setting),
     Test(Setting),
@@ -74,7 +74,7 @@ pub enum FrameTag {
 
 // What a known tag outside the frame buffer group asks, by family; `Allocate` and `Handle` are those of GPU
 // memory.
-#[derive(Drop)]
+#[derive(Clone, Copy)]
 pub enum OutsideTag {
     Fact(FactTag),
     Power(PowerTag),
@@ -86,7 +86,7 @@ pub enum OutsideTag {
 }
 
 // What a known tag asks: of the frame buffer group, or outside it.
-#[derive(Drop)]
+#[derive(Clone, Copy)]
 pub enum Kind {
     Outside(OutsideTag),
     Group(FrameTag),

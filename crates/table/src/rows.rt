@@ -8,7 +8,7 @@ use crate::kinds::{
 };
 
 // The row of an id: what it asks and the length of its request.
-#[derive(Drop)]
+#[derive(Clone, Copy)]
 pub enum Row {
     Known(Kind, usize),
     Unknown,

@@ -1,4 +1,6 @@
 // The tags outside the frame buffer group: what each answers, and what a set leaves.
+#![tactic(auto)]
+
 pub mod clock;
 pub mod fact;
 pub mod memory;

@@ -14,7 +14,7 @@ use table::kinds::HandleTag;
 use words::align::{lowest_multiple, one_bit};
 
 // What an allocate comes to: a handle and its new block, or nothing.
-#[derive(Drop)]
+#[derive(Clone, Copy)]
 pub enum Allocation {
     Granted(u32, Block),
     Refused,
@@ -48,7 +48,7 @@ fn raised_over(b: Block, address: u64, size: u32, alignment: u32) -> u64
 
 // What a look at every place finds: the lowest handle whose place is free, 0 where all are taken; and the address,
 // raised over one block after the other.
-#[derive(Drop)]
+#[derive(Clone, Copy)]
 struct Scan {
     handle: u32,
     address: u64,

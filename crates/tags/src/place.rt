@@ -1,7 +1,7 @@
 // Where the item of an id stands among those of its kind.
 ghost use Rattle.tags.specs.Named.{Placed};
 
-#[derive(Drop)]
+#[derive(Clone, Copy)]
 pub enum Place {
     At(usize),
     Unlisted,

@@ -1,0 +1,6 @@
+use Rattle.board.specs.Items.{valid_device}
+use Rattle.board.proofs.valid.valid_device.Goals as goal
+
+pub returns : goal.returns
+unfolding valid_device
+returns c = c.valid_state.ensures
