@@ -223,15 +223,16 @@ module _ (B : Datum) (S : Declared) (L : LL.Laws S) (returned : Member S L B) (p
     locals = local (ty_int w32) value_local ∷ local (ty_ref (named 0) mut (pointee B.row.written)) value_local ∷
         local (slice_ty (ty_ref (named 1) mut (ty_int w8))) value_local ∷ local (ty_ref (named 2) mut (ty_int w32)) value_local ∷ local B.ty value_local ∷
         local (layout (shape S)) value_local ∷ local (ty_ref erased mut (ty_int w8)) value_local ∷
-        local (slice_ty (ty_ref erased mut (ty_int w8))) value_local ∷ local (ty_int w32) value_local ∷ [];
+        local (slice_ty (ty_ref erased mut (ty_int w8))) value_local ∷ local B.ty value_local ∷ local (ty_int w32) value_local ∷ [];
     body = seq (assign (place 4 []) (rv_opd (copy (place 1 (deref B.ty ∷ [])))))
         (seq (assign (place 6 []) (addr_of (place 2 (field 0 ∷ deref (ty_int w8) ∷ []))))
         (seq (assign (place 7 []) (aggregate (copy (place 6 []) ∷ copy (place 2 (field 1 ∷ [])) ∷ [])))
         (seq (call g (copy (place 4 []) ∷ copy (place 7 []) ∷ []) (place 5 []))
-        (seq (assign (place 1 (deref B.ty ∷ [])) (rv_opd (copy (place 5 (field returned.number ∷ [])))))
-        (seq (assign (place 8 []) (op1 (cast unsigned unsigned w32) (copy (place 5 (field position.number ∷ [])))))
-        (seq (assign (place 3 (deref (ty_int w32) ∷ [])) (rv_opd (copy (place 8 []))))
-        (seq (assign (place 0 []) (rv_opd (copy (place 5 (field outcome.number ∷ []))))) return)))))));
+        (seq (assign (place 8 []) (rv_opd (copy (place 5 (field returned.number ∷ [])))))
+        (seq (assign (place 1 (deref B.ty ∷ [])) (rv_opd (copy (place 8 []))))
+        (seq (assign (place 9 []) (op1 (cast unsigned unsigned w32) (copy (place 5 (field position.number ∷ [])))))
+        (seq (assign (place 3 (deref (ty_int w32) ∷ [])) (rv_opd (copy (place 9 []))))
+        (seq (assign (place 0 []) (rv_opd (copy (place 5 (field outcome.number ∷ []))))) return))))))));
   }
 
   abbrev on_loan : Ended
@@ -272,37 +273,39 @@ module _ (B : Datum) (S : Declared) (L : LL.Laws S) (returned : Member S L B) (p
           ⊛ ‵ ((MutSlice erased κ' u8).own_val y (mut_slice_vals y)) ⊛ ‵ ((MutRef erased κ'' u32).own_val z (mut_vals z)) ⊛ ‵ ftrue)
           ∷ raw ((c bound.0.0 bound.0.3).requires i) ∷ []) ∵ split ! $ split3 ! $ move ! (3 ∷ []) $ split3 ! $ move ! (2 ∷ []) $ split ! $
           move ! (6 ∷ []) $ split ! $ keep ! (4 ∷ 6 ∷ 5 ∷ 7 ∷ 2 ∷ 0 ∷ []) $ enter ! C Λ code (Way.args bound) (Way.post bound) $ alloc1 ! (λ l₀.
-          alloc1 ! (λ l₁. alloc1 ! (λ l₂. alloc1 ! (λ l₃. alloc1 ! (λ l₄. alloc1 ! (λ l₅. alloc1 ! (λ l₆. alloc1 ! (λ l₇. alloc1 ! (λ l₈. alloc0 ! $
-          params1 ! $ pass1 ! (init ! 14 refl (tt, tt)) $ pass1 ! (init ! 12 refl (tt, (tt, (record { fits = room.0 }, tt)))) $
-          -- [_8; …; _0; …; the record's reference; its token; the bytes' reference; its token; the place's; its token]
-          pass1 ! (init ! 10 refl (tt, tt)) $ pass0 ! $ move ! (18 ∷ 19 ∷ []) $ opens_datum ! tt B x (λ is.
-          -- [the record; its open borrow; _8; …; _0; …; the bytes' reference; its token; the place's; its token]
-          assigns ! (of_opd ! (load ! (from ! (hop ! (look ! 16 refl) (stop !))) (look ! 0 refl))) (from ! (stop !)) (init ! 10 refl
+          alloc1 ! (λ l₁. alloc1 ! (λ l₂. alloc1 ! (λ l₃. alloc1 ! (λ l₄. alloc1 ! (λ l₅. alloc1 ! (λ l₆. alloc1 ! (λ l₇. alloc1 ! (λ l₈. alloc1 ! (λ l₉.
+          alloc0 ! $ params1 ! $ pass1 ! (init ! 16 refl (tt, tt)) $ pass1 ! (init ! 14 refl (tt, (tt, (record { fits = room.0 }, tt)))) $
+          -- [_9; …; _0; …; the record's reference; its token; the bytes' reference; its token; the place's; its token]
+          pass1 ! (init ! 12 refl (tt, tt)) $ pass0 ! $ move ! (20 ∷ 21 ∷ []) $ opens_datum ! tt B x (λ is.
+          -- [the record; its open borrow; _9; …; _0; …; the bytes' reference; its token; the place's; its token]
+          assigns ! (of_opd ! (load ! (from ! (hop ! (look ! 18 refl) (stop !))) (look ! 0 refl))) (from ! (stop !)) (init ! 12 refl
           (B.typed 𝓛 x.now _ is)) $
-          assigns ! (addr ! (from ! (fld ! refl (hop ! (look_in ! 14 (sub ! 0 refl (whole !))) (stop !))))) (from ! (stop !)) (init ! 6 refl (tt, tt)) $
-          assigns ! (agg ! (and_then ! (load ! (from ! (stop !)) (look ! 6 refl)) (and_then ! (load ! (from ! (fld ! refl (stop !)))
-          (look_in ! 14 (sub ! 1 refl (whole !)))) (no_more !)))) (from ! (stop !)) (init ! 4 refl (tt, (tt, (record { fits = room.0 }, tt)))) $
-          move ! (21 ∷ 20 ∷ []) $ calls_value B S L φ ! fm known x.now y (slice_val y.ref_ptr (length y.now)) is
-          (and_then ! (load ! (from ! (stop !)) (look ! 11 refl)) (and_then ! (load ! (from ! (stop !)) (look ! 5 refl)) (no_more !))) (λ r zs p l came.
-          -- [the last bytes; their token; the record; its open borrow; _8; …; _0; …; the place's reference; its token]
-          land ! (from ! (stop !)) (init ! 10 refl ((LL.lawful S L 𝓛).typed r _ came).0) $
-          assigns ! (of_opd ! (member ! returned 10 r refl refl)) (from ! (hop ! (look ! 18 refl) (stop !))) (store ! 2 refl
+          assigns ! (addr ! (from ! (fld ! refl (hop ! (look_in ! 16 (sub ! 0 refl (whole !))) (stop !))))) (from ! (stop !)) (init ! 8 refl (tt, tt)) $
+          assigns ! (agg ! (and_then ! (load ! (from ! (stop !)) (look ! 8 refl)) (and_then ! (load ! (from ! (fld ! refl (stop !)))
+          (look_in ! 16 (sub ! 1 refl (whole !)))) (no_more !)))) (from ! (stop !)) (init ! 6 refl (tt, (tt, (record { fits = room.0 }, tt)))) $
+          move ! (23 ∷ 22 ∷ []) $ calls_value B S L φ ! fm known x.now y (slice_val y.ref_ptr (length y.now)) is
+          (and_then ! (load ! (from ! (stop !)) (look ! 13 refl)) (and_then ! (load ! (from ! (stop !)) (look ! 7 refl)) (no_more !))) (λ r zs p l came.
+          -- [the last bytes; their token; the record; its open borrow; _9; …; _0; …; the place's reference; its token]
+          land ! (from ! (stop !)) (init ! 12 refl ((LL.lawful S L 𝓛).typed r _ came).0) $
+          assigns ! (of_opd ! (member ! returned 12 r refl refl)) (from ! (stop !)) (init ! 6 refl
+          (B.typed 𝓛 (returned.of r) _ (returned.is r _ came))) $
+          assigns ! (of_opd ! (load ! (from ! (stop !)) (look ! 6 refl))) (from ! (hop ! (look ! 20 refl) (stop !))) (store ! 2 refl
           (B.typed 𝓛 (returned.of r) _ (returned.is r _ came))) $ move ! (2 ∷ 3 ∷ []) $
-          closes_datum ! tt B x (returned.of r) _ (returned.is r _ came) $ move ! (22 ∷ 23 ∷ []) $ opens_datum ! tt (of_width w32) z (λ _.
-          -- [the place; its open borrow; the record's reference; its token; the last bytes; their token; _8; …; _0; …]
-          assigns ! (un ! (member ! position 12 r refl refl) (fits _ _ _ _ p)) (from ! (stop !)) (init ! 6 refl (tt, fits _ _ _ _ p)) $
-          assigns ! (of_opd ! (load ! (from ! (stop !)) (look ! 6 refl))) (from ! (hop ! (look ! 16 refl) (stop !))) (store ! 0 refl (tt, fits _ _ _ _ p)) $
+          closes_datum ! tt B x (returned.of r) _ (returned.is r _ came) $ move ! (24 ∷ 25 ∷ []) $ opens_datum ! tt (of_width w32) z (λ _.
+          -- [the place; its open borrow; the record's reference; its token; the last bytes; their token; _9; …; _0; …]
+          assigns ! (un ! (member ! position 14 r refl refl) (fits _ _ _ _ p)) (from ! (stop !)) (init ! 6 refl (tt, fits _ _ _ _ p)) $
+          assigns ! (of_opd ! (load ! (from ! (stop !)) (look ! 6 refl))) (from ! (hop ! (look ! 18 refl) (stop !))) (store ! 0 refl (tt, fits _ _ _ _ p)) $
           closes_datum ! tt (of_width w32) z (position.of r) _ (refl, (fits _ _ _ _ p).fits) $
-          assigns ! (of_opd ! (member ! outcome 12 r refl refl)) (from ! (stop !)) (init ! 22 refl
-          ((of_width w32).typed 𝓛 (outcome.of r) _ (outcome.is r _ came))) $ returns ! (look ! 22 refl) $
-          move ! (22 ∷ 23 ∷ 20 ∷ 21 ∷ 18 ∷ 19 ∷ 16 ∷ 17 ∷ 14 ∷ 15 ∷ 12 ∷ 13 ∷ 10 ∷ 11 ∷ 8 ∷ 9 ∷ 6 ∷ 7 ∷ []) $
+          assigns ! (of_opd ! (member ! outcome 14 r refl refl)) (from ! (stop !)) (init ! 24 refl
+          ((of_width w32).typed 𝓛 (outcome.of r) _ (outcome.is r _ came))) $ returns ! (look ! 24 refl) $
+          move ! (24 ∷ 25 ∷ 22 ∷ 23 ∷ 20 ∷ 21 ∷ 18 ∷ 19 ∷ 16 ∷ 17 ∷ 14 ∷ 15 ∷ 12 ∷ 13 ∷ 10 ∷ 11 ∷ 8 ∷ 9 ∷ 6 ∷ 7 ∷ []) $ frees_held ! $
           frees_held ! $ frees_held ! $ frees_held ! $ frees_held ! $ frees_held ! $ frees_held ! $ frees_held ! $ frees_held ! $ frees_held ! $ free0 ! $
           -- [the place's reference; its token; the record's reference; its token; the last bytes; their token]
           suffices ! _ (ends_at 𝓛 on_loan stayed c bound (vint w32 (outcome.of r)) (outcome.of r) (returned.of r, (zs, (position.of r, tt)))
           (tt, (l, (tt, tt)))) $ use0 𝓛 (raw ((c bound.0.0 bound.0.3).ensures i (outcome.of r)
           (at_exit on_loan bound.0.0 bound.0.3 (returned.of r, (zs, (position.of r, tt)))))) (so bound.0.0 bound.0.3 i r zs p) $
           owned ! u32 (Is u32) (uint_Makes 𝓛 w32) (outcome.of r) _ (outcome.is r _ came) $ nothing ! $ nothing ! $
-          move ! (6 ∷ 8 ∷ 4 ∷ 0 ∷ []) $ group ! 4 $ move ! (0 ∷ 2 ∷ []) $ join ! $ move ! (4 ∷ 5 ∷ 3 ∷ 1 ∷ []) $ group ! 4 $ join ! $ done !))))))))))))
+          move ! (6 ∷ 8 ∷ 4 ∷ 0 ∷ []) $ group ! 4 $ move ! (0 ∷ 2 ∷ []) $ join ! $ move ! (4 ∷ 5 ∷ 3 ∷ 1 ∷ []) $ group ! 4 $ join ! $ done !)))))))))))))
 
   -- the thin function k keeps its promise where g keeps its own
   pub thin_keeps : {M : Type 1} {𝓤 : Ura M} (𝓛 : Logic 𝓤) (𝓜 : Model 𝓤 𝓛.H) (𝓡 : Running 𝓤 𝓛.H 𝓜) (γ : Routines) (k : Callee)
