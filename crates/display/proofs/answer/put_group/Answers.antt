@@ -1,0 +1,1 @@
+use Rattle.display.proofs.answer.put_group.Goals as goal
