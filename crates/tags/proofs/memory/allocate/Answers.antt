@@ -1,6 +1,5 @@
 use mathlib.Core.Path.{sym, ◌∙◌}
 use native.Mathlib.Omega.{arith}
-use borrow.Author.Tests.{not-true, not-false}
 use Rattle.words.proofs.Laws.Align.{one_bit_least, up_below}
 use Rattle.board.proofs.Laws.Memory.{heap_is}
 use Rattle.tags.proofs.Laws.Memory.{size_refused, alignment_refused, place_refused, address_refused}
@@ -12,66 +11,50 @@ pub returns-then-size-eq0 : goal.returns-then-size-eq0
 returns-then-size-eq0 c = size_refused _ _ _ _ _ c.if-size-eq0.true
 
 pub returns-then-not-one_bit : goal.returns-then-not-one_bit
-returns-then-not-one_bit c = alignment_refused _ _ _ _ _ (sym c.one_bit.ensures ∙ not-true _ c.if-not-one_bit.true)
+returns-then-not-one_bit c = alignment_refused _ _ _ _ _ (sym c.one_bit.ensures ∙ c.if-not-one_bit.true)
 
 pub lowest_multiple-a-requires : goal.lowest_multiple-a-requires
-lowest_multiple-a-requires c =
-    let tested = c.before in
-    (sym tested.before.one_bit.ensures ∙ not-false _ tested.if2.false, search rules)
+lowest_multiple-a-requires c = (sym c.one_bit.ensures ∙ c.if-not-one_bit.false, search rules)
 
 pub loop-a-init : goal.loop-a-init
 loop-a-init c =
-    let single = (lowest-multiple-requires c.before c.lowest_multiple.lifetimes).0 in
-    let heap = c.args.heap in
-    search_start _ _ _ _ single _ c.lowest_multiple.ensures (omega (arith, up_below _ heap.base (one_bit_least _ single)))
+    let single = sym c.one_bit.ensures ∙ c.if-not-one_bit.false in
+    search_start _ _ _ _ single _ c.lowest_multiple-a.ensures
+    (omega (arith, up_below _ c.args.heap.base (one_bit_least _ single)))
 
 pub overflow_add-a : goal.overflow_add-a
 overflow_add-a c = let h = c.loop-a.invariant.most in search rules
 
 pub scan_places-found-requires : goal.scan_places-found-requires
 scan_places-found-requires c =
-    let l = c.before in
-    ((lowest-multiple-requires l.before.before l.before.lowest-multiple.lifetimes).0, l.loop.invariant.even, l.loop.invariant.most)
+    (sym c.one_bit.ensures ∙ c.if-not-one_bit.false, c.loop-a.invariant.even, c.loop-a.invariant.most)
 
 pub returns-then-found-eq0 : goal.returns-then-found-eq0
-returns-then-found-eq0 c = place_refused _ _ _ _ _ (sym c.scan_places.ensures.0 ∙ c.if-found-eq0.true)
+returns-then-found-eq0 c = place_refused _ _ _ _ _ (sym c.scan_places-found.ensures.0 ∙ c.if-found-eq0.true)
 
 pub overflow_cast-a : goal.overflow_cast-a
 overflow_cast-a c =
-    let l = c.before in
-    let start = l.before.before.before.before.before.before.before in
-    let h = (heap_is _ start.requires).last in
-    let e = l.before.before.before.end.ensures.0 in
+    let h = (heap_is _ c.requires).last in
+    let e = c.end-last.ensures.0 in
     search rules
 
 pub returns-then-found-a : goal.returns-then-found-a
 returns-then-found-a c =
-    let scanned = c.before in
-    let l = scanned.before.before in
-    let started = l.before in
-    let single = (lowest-multiple-requires started.before started.lowest-multiple.lifetimes).0 in
-    let sized = started.before.before.before.before.before in
-    search_granted _ _ _ _ sized.before.requires (omega (arith, sized.if1.false)) single started.lowest-multiple.ensures
-    started.before.before.end.ensures.0
-    l.loop.invariant _ (search rules) scanned.scan-places.ensures.0 scanned.scan-places.ensures.1 c.if-found-eq0.false
-    c.if-found-a.true c.new_block.ensures
+    let single = sym c.one_bit.ensures ∙ c.if-not-one_bit.false in
+    search_granted _ _ _ _ c.requires (omega (arith, c.if-size-eq0.false)) single c.lowest_multiple-a.ensures
+    c.end-last.ensures.0
+    c.loop-a.invariant _ (search rules) c.scan_places-found.ensures.0 c.scan_places-found.ensures.1 c.if-found-eq0.false
+    c.if-found-a.true c.new_block-b.ensures
 
 pub loop-a-smaller : goal.loop-a-smaller
-loop-a-smaller c =
-    let scanned = c.before in
-    let h = scanned.scan-places.ensures.1.above in
-    let l = scanned.before in
-    omega arith
+loop-a-smaller c = let h = c.scan_places-found.ensures.1.above in omega arith
 
 pub loop-a-preserved : goal.loop-a-preserved
-loop-a-preserved c = search_next _ _ _ _ c.loop-a.invariant c.scan_places.ensures.1
+loop-a-preserved c = search_next _ _ _ _ c.loop-a.invariant c.scan_places-found.ensures.1
 
 pub returns : goal.returns
 returns c =
-    let started = c.before in
-    let single = (lowest-multiple-requires started.before started.lowest-multiple.lifetimes).0 in
-    let sized = started.before.before.before.before.before in
+    let single = sym c.one_bit.ensures ∙ c.if-not-one_bit.false in
     address_refused _ _ _ _ _
-    (address_none _ _ _ _ sized.before.requires (omega (arith, sized.if1.false)) single started.lowest-multiple.ensures
-    started.before.before.end.ensures.0
-    c.loop-a.invariant (search rules))
+    (address_none _ _ _ _ c.requires (omega (arith, c.if-size-eq0.false)) single c.lowest_multiple-a.ensures
+    c.end-last.ensures.0 c.loop-a.invariant (search rules))

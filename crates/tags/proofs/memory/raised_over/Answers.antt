@@ -10,11 +10,9 @@ returns-then-is_clear_of c = (rw (sym c.is_clear_of.ensures ∙ c.if-is_clear_of
 
 pub returns : goal.returns
 returns c =
-    let tested = c.before in
-    let start = tested.before in
     let e = c.lowest_multiple.ensures in
     let k = c.end.ensures.1 in (
-      raised_behind _ _ _ _ tested.is-clear-of.ensures c.if-is_clear_of.false c.bytes_of.ensures
+      raised_behind _ _ _ _ c.is_clear_of.ensures c.if-is_clear_of.false c.bytes_of.ensures
           c.end.ensures.0 e,
-      omega (arith, up_below start.args.alignment c.end.result (one_bit_least _ start.requires.0)),
+      omega (arith, up_below c.args.alignment c.end.result (one_bit_least _ c.requires.0)),
     )

@@ -5,7 +5,6 @@ use Rattle.table.specs.declared.kinds.OutsideTag.{OutsideTag}
 use Rattle.answers.specs.Writing.{answered}
 use Rattle.tags.proofs.Laws.Facts.{put_by}
 use Rattle.tags.specs.Named.{absent_answer}
-use Rattle.tags.proofs.outside.put_absent.Goals as goal
 
 absent-put : (at size id : ℕ) (m : List ℕ) {t x : OutsideTag} → t ≡ x → {bytes : List ℕ} → bytes ≡ absent_answer x id → {m' : List ℕ}
     → m' ≡ answered at size bytes m → m' ≡ answered at size (absent_answer t id) m

@@ -3,11 +3,11 @@ use Rattle.tags.proofs.voltage.voltage_after.Goals as goal
 
 pub returns-then-v : goal.returns-then-v
 unfolding voltage_after
-returns-then-v c = rw (c.then-v.is, c.clamped.ensures, c.if-v.true)
+returns-then-v c = rw (c.in-Set.is, c.clamped.ensures, c.if-v.true)
 
 pub returns-else-v : goal.returns-else-v
 unfolding voltage_after
-returns-else-v c = rw (c.else-v.is, c.if-v.false)
+returns-else-v c = rw (c.in-Set.is, c.if-v.false)
 
 pub returns-in-Get : goal.returns-in-Get
 unfolding voltage_after
