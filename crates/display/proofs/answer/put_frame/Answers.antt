@@ -5,25 +5,25 @@ use Rattle.display.proofs.answer.put_frame.Goals as goal
 
 pub returns-in-Get : goal.returns-in-Get
 unfolding group_answer
-returns-in-Get c = rw c.tag-1.given.1 c.put_setting.ensures
+returns-in-Get c = λ _. rw c.in-Get.is c.put_setting.ensures
 
 pub returns-in-Test : goal.returns-in-Test
 unfolding group_answer
-returns-in-Test c = rw c.tag-in-Test-1.given.1 c.put_setting-in-Test.ensures
+returns-in-Test c = λ _. rw c.in-Test.is c.put_setting-in-Test.ensures
 
 pub returns-in-Set : goal.returns-in-Set
 unfolding group_answer
-returns-in-Set c = rw c.tag-in-Set-1.given.1 c.put_setting-in-Set.ensures
+returns-in-Set c = λ _. rw c.in-Set.is c.put_setting-in-Set.ensures
 
 pub returns-in-Pitch : goal.returns-in-Pitch
 unfolding group_answer
-returns-in-Pitch c = rw c.in-Pitch.is c.put_word.ensures
+returns-in-Pitch c = λ _. rw c.in-Pitch.is c.put_word.ensures
 
 pub returns-in-Allocate : goal.returns-in-Allocate
 unfolding group_answer
-returns-in-Allocate c = rw c.in-Allocate.is c.put_pair.ensures
+returns-in-Allocate c = λ _. rw c.in-Allocate.is c.put_pair.ensures
 
 pub returns-in-Release : goal.returns-in-Release
 unfolding group_answer
-returns-in-Release c = rw c.in-Release.is
+returns-in-Release c = λ _. rw c.in-Release.is
     (c.put_nothing.ensures ∙ none_sized _ _ _ _)

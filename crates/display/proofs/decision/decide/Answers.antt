@@ -13,8 +13,7 @@ carry_out-requires c = (c.requires, sym c.is_accepted.ensures ∙ c.if-is_accept
 
 pub returns-then-is_accepted : goal.returns-then-is_accepted
 returns-then-is_accepted c =
-    let at_others = c.before in
-    c.carry_out.ensures ∙ carried_out_by _ _ at_others.before.if1.false at_others.if3.true c.is_accepted.ensures
+    c.carry_out.ensures ∙ carried_out_by _ _ c.if-o.false c.if-o-3.true c.is_accepted.ensures
     c.if-is_accepted.true
 
 pub show-requires : goal.show-requires
@@ -22,8 +21,7 @@ show-requires c = valid_possible _ c.requires
 
 pub returns-then-o-3 : goal.returns-then-o-3
 returns-then-o-3 c =
-    let at_others = c.before in
-    c.show.ensures ∙ carried_out_by _ _ at_others.before.if1.false at_others.if3.true c.is_accepted.ensures
+    c.show.ensures ∙ carried_out_by _ _ c.if-o.false c.if-o-3.true c.is_accepted.ensures
     c.if-is_accepted.false
 
 pub returns : goal.returns

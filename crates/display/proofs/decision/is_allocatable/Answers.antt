@@ -11,11 +11,11 @@ lowest_multiple-base-requires c = (sym c.one_bit.ensures ∙ c.if-one_bit.true, 
 
 pub overflow_add-result : goal.overflow_add-result
 overflow_add-result c = let aligned = sym c.one_bit.ensures ∙ c.if-one_bit.true in
-    let h = c.lowest_multiple.ensures in
+    let h = c.lowest_multiple-base.ensures in
     let k = c.need-size.ensures in
     omega (
       arith,
-      up_below _ c.args.d.region-1.base (one_bit_least _ aligned),
+      up_below _ c.args.d.region.base (one_bit_least _ aligned),
       need_most _
           c.requires,
     )
@@ -23,7 +23,7 @@ overflow_add-result c = let aligned = sym c.one_bit.ensures ∙ c.if-one_bit.tru
 pub returns-then-one_bit : goal.returns-then-one_bit
 returns-then-one_bit c =
     allocatable_by _ _ (sym c.one_bit.ensures ∙ c.if-one_bit.true)
-    c.lowest_multiple.ensures c.need-size.ensures
+    c.lowest_multiple-base.ensures c.need-size.ensures
 
 pub returns : goal.returns
 returns c = not_aligned _ _ (sym c.one_bit.ensures ∙ c.if-one_bit.false)

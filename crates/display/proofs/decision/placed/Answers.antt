@@ -10,11 +10,11 @@ lowest_multiple-base-requires c =
 
 pub overflow_cast-result : goal.overflow_cast-result
 overflow_cast-result c = let h = placed_fits _ _ c.requires.0 c.requires.1 c.if-o.true in
-    rw c.lowest_multiple.ensures (omega arith)
+    rw c.lowest_multiple-base.ensures (omega arith)
 
 pub need-requires : goal.need-requires
 need-requires c = accepted_possible _ _ c.requires.1
 
 pub returns-then-o : goal.returns-then-o
 unfolding placed_at
-returns-then-o c = rw (c.if-o.true, c.lowest_multiple.ensures, c.need.ensures)
+returns-then-o c = rw (c.if-o.true, c.lowest_multiple-base.ensures, c.need.ensures)

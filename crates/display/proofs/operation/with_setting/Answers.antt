@@ -3,7 +3,7 @@ use Rattle.display.proofs.operation.with_setting.Goals as goal
 
 pub returns-in-Physical : goal.returns-in-Physical
 unfolding with_setting
-returns-in-Physical c = rw (c.in-Physical.is, c.type_size.ensures)
+returns-in-Physical c = rw (c.in-Physical.is, c.size_of-size.ensures)
 
 pub returns-in-Virtual : goal.returns-in-Virtual
 unfolding with_setting

@@ -1,1 +1,0 @@
-use Rattle.display.proofs.answer.put_group.Goals as goal
