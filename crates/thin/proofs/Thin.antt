@@ -7,13 +7,13 @@ use mathlib.Core.List.{List, [], ◌∷◌}
 use lib.ListN.{length}
 use lib.Dec.{T}
 use seplogic.Ra.Ura.{Ura}
-use seplogic.Ra.TreeShare.{full_share}
-use mir.Syntax.{Name, Width, Ty, Place, Body, Opd as Operand, Fn, named, erased, mut, unsigned, w8, w32, w64, ty_int, ty_ref, local, value_local, place, field}
-use mir.Syntax.{deref, copy, rv_opd, op1, cast, addr_of, aggregate, seq, assign, call, return}
+use base.Fraction.{full_share}
+use mir.Syntax.{Callee, Width, Ty, Place, Body, Opd as Operand, Fn, named, erased, mut, unsigned, w8, w32, w64, ty_int, ty_ref, local, value_local}
+use mir.Syntax.{place, field, deref, copy, rv_opd, op1, cast, addr_of, aggregate, seq, assign, call, return}
 use mir.Val.{Val, vint, of_list, has_ty, WT, Fits}
 use mir.Fields.{get_v}
 use base.Logic.{ent, emp, id⊢}
-use base.Fml.{Lft, Share, ftrue, flft, fobs, fauth, fobor, fat, fdies}
+use base.Fml.{Lft, Share, Fml, ftrue, fsep, flft, fobs, fauth, fbor, fobor, fat, fdies}
 use prog.Memory.{field_at}
 use prog.Model.{Model}
 use prog.Routine.{Routine, Env as Routines}
@@ -23,11 +23,12 @@ use contract.Lifetimes.{Lfts}
 use contract.Monad.{fact}
 use contract.Running.{Running, tables, tables_of}
 use types.Kit.{Item, Goal, Soaks, Post, Seq, Step, step, runs, lands, frees, nth, ‵, raw, some, later, ◌⊛◌, ◌$◌, ◌∵◌, !, qed, move, keep, drop}
-use types.Kit.{use0, use1, split, split3, group, join, pick, rewrite, fsplit, fsplit3, fjoin3, feq_l, feq_i, regoal, suffices, await, done}
+use types.Kit.{use0, use1, split, split3, group, join, pick, rewrite, fsplit, fsplit3, fjoin, fjoin3, feq_l, feq_i, regoal, suffices, await, done}
 use types.Run.{Opd, Opds, Walks as Reaches, look, init, store, forget, stop, hop, fld, from, load, addr, of_opd, un, and_then, no_more, assigns, land, returns}
 use types.Run.{enter, alloc1, alloc0, params1, pass1, pass0, free1, free0}
 use types.Part.{Part, agg, whole, sub, look_in}
-use types.SemTy.{Body as Borrowed}
+use types.SemTy.{Arr, Body as Borrowed}
+use types.Hole.{Holey}
 use sound.WpLaws.{FmC, fm_of, WpFn-mono}
 use denote.RattleType.{RattleType, flat, mirs}
 use denote.Laws.{Is, Tells, Makes, valss, shows}
@@ -120,10 +121,10 @@ module _ {M : Type 1} {𝓤 : Ura M} {𝓛 : Logic 𝓤} {K : Type 0} {Γ : List
     pub closes_datum : (y : D.row.Denot) (v : Val) → Is D.row y (v ∷ [])
         → Step K 𝓛 (‵ ((MutRef erased κ D.row).own_val (at_last x y) (mut_vals x)) ∷ ‵ (flft κ q) ∷ Γ) G (Cell D x v ∷ Held-open D x κ q ∷ Γ) G
     closes_datum y v is = step (λ s.
-        use1 𝓛 (‵ (cell_at full_share (D.ty ∷ []) (v ∷ []) x.ptr.0 x.ptr.1)) (𝓛.laws.at_raw full_share D.ty x.ptr.0 x.ptr.1 v) $
-        rewrite t 0 (λ (τs : List Ty). ‵ (cell_at full_share τs (v ∷ []) x.ptr.0 x.ptr.1)) (sym D.one) refl $ move t (1 ∷ []) $ split3 t $
+        use1 𝓛 (‵ (cell_at full_share (D.ty ∷ []) (v ∷ []) x.ref_ptr.0 x.ref_ptr.1)) (𝓛.laws.at_raw full_share D.ty x.ref_ptr.0 x.ref_ptr.1 v) $
+        rewrite t 0 (λ (τs : List Ty). ‵ (cell_at full_share τs (v ∷ []) x.ref_ptr.0 x.ref_ptr.1)) (sym D.one) refl $ move t (1 ∷ []) $ split3 t $
         owned t D.row (Is D.row) (D.makes 𝓛) y (v ∷ []) is $ move t (4 ∷ 0 ∷ []) $
-        closes t z D.row y (v ∷ []) x.ptr.0 x.ptr.1 $ feq_i t (List Val) (mut_vals x) (mut_vals x) refl $ fjoin3 t $ s)
+        closes t z D.row y (v ∷ []) x.ref_ptr.0 x.ref_ptr.1 $ feq_i t (List Val) (mut_vals x) (mut_vals x) refl $ fjoin3 t $ s)
 
   -- a member of the struct r, which the local i holds: it stands at entry n
   pub member : K → {S : Declared} {L : LL.Laws S} {D : Datum} (F : Member S L D) (n : ℕ) (r : S.D) {E : Env 𝓤 H} {i l : ℕ}
@@ -145,8 +146,8 @@ module _ {M : Type 1} {𝓤 : Ura M} {𝓛 : Logic 𝓤} {K : Type 0} {Γ : List
 module _ {M : Type 1} {𝓤 : Ura M} (𝓛 : Logic 𝓤) (𝓜 : Model 𝓤 𝓛.H) (𝓡 : Running 𝓤 𝓛.H 𝓜) (γ : Routines) where
   open 𝓛 use {H}
 
-  pub caller_keeps : (k : Name) (code : Fn) → Closed 𝓤 H (tables 𝓤 H 𝓜 𝓡 γ).C (tables 𝓤 H 𝓜 𝓡 γ).Λ k code
-      → (g : Name) (routine : Routine) → γ g ≡ routine → (told : Contract 𝓤) → Triple 𝓤 (𝓡.run routine) told
+  pub caller_keeps : (k : Callee) (code : Fn) → Closed 𝓤 H (tables 𝓤 H 𝓜 𝓡 γ).C (tables 𝓤 H 𝓜 𝓡 γ).Λ k code
+      → (g : Callee) (routine : Routine) → γ g ≡ routine → (told : Contract 𝓤) → Triple 𝓤 (𝓡.run routine) told
       → (T : Ended) (hs : Stays T.signature.params T.kept) → AllGo 𝓛 T.signature.lifetimes T.signature.params T.kept hs
       → (c : Clauses 𝓤 T) → ((C : Calls 𝓤 H) (Λ : Loops 𝓤 H) → FmC 𝓤 H 𝓛.laws C → Triple 𝓤 (C g) told → Walks 𝓛 T hs (WpFn 𝓤 H C Λ code) c)
       → Triple 𝓤 ((tables 𝓤 H 𝓜 𝓡 γ).C k) (triple_of 𝓛 T.signature (closing 𝓛 T c))
@@ -156,6 +157,11 @@ module _ {M : Type 1} {𝓤 : Ura M} (𝓛 : Logic 𝓤) (𝓜 : Model 𝓤 𝓛
       entered 𝓤 H (triple_of 𝓛 T.signature (closing 𝓛 T c)) 𝓣.C 𝓣.Λ k code closed
       (walk_Meets 𝓛 T hs gs c (WpFn 𝓤 H 𝓣.C 𝓣.Λ code) (WpFn-mono 𝓤 H 𝓛.laws 𝓣 code)
       (walks 𝓣.C 𝓣.Λ (fm_of 𝓤 H 𝓛.laws 𝓣) (cited 𝓤 H told 𝓜 𝓡 γ g routine is known)))
+
+-- what is left of lent bytes that were given up, once they are zs
+abbrev pub given_up : Lft → MutBor (List ℕ) → List ℕ → Fml
+given_up κ y zs =
+    fsep (finally u8 y.ghost_name zs) (fbor κ (Borrowed (Arr (Holey (mem u8)) (length y.now)) y.ref_ptr.0 y.ref_ptr.1 y.ghost_name))
 
 -- a parameter or a result of plain data
 abbrev pub slot : {n : ℕ} → RattleType → Slot n
@@ -182,11 +188,11 @@ module _ (B : Datum) (S : Declared) (L : LL.Laws S) (φ : B.row.Denot → List �
     -- a call, with the bytes' token and reference at the head: once it has returned the struct r, the bytes are zs
     open 𝓛 use {H}
 
-    pub calls_value : K → FmC 𝓤 H 𝓛.laws C → {g : Name} → Triple 𝓤 (C g) (Value 𝓛) → {κ : Lft} {q : Share} (h : B.row.Denot) (y : MutBor (List ℕ))
+    pub calls_value : K → FmC 𝓤 H 𝓛.laws C → {g : Callee} → Triple 𝓤 (C g) (Value 𝓛) → {κ : Lft} {q : Share} (h : B.row.Denot) (y : MutBor (List ℕ))
         → (s : Val) {Λ : Loops 𝓤 H} {end : Post 𝓤 H} {xs : List Operand} {to : Place} {rest : Body}
         → Is B.row h (B.val h ∷ []) → Opds K 𝓛 (raw ((Value 𝓛).pre (handed 𝓛 κ q h y s)) ∷ Γ) E xs (B.val h ∷ s ∷ [])
         → ((r : S.D) (zs : List ℕ) → φ h y.now r zs → length zs ≡ length y.now → Is (row S) r (LL.val S L r ∷ [])
-        → Seq K 𝓛 (‵ (finally u8 y.ghost_name zs) ∷ ‵ (flft κ q) ∷ Γ) (lands C Λ E to (LL.val S L r) rest end))
+        → Seq K 𝓛 (‵ (given_up κ y zs) ∷ ‵ (flft κ q) ∷ Γ) (lands C Λ E to (LL.val S L r) rest end))
         → Seq K 𝓛 (‵ (flft κ q) ∷ ‵ ((MutSlice erased κ u8).own_val y (s ∷ [])) ∷ Γ) (runs C Λ E (seq (call g xs to) rest) end)
     calls_value t fm known {κ} {q} h y s {Λ} {end} {xs} {to} {rest} is reads k =
         owned t B.row (Is B.row) (B.makes 𝓛) h (B.val h ∷ []) is $ nothing t $ nothing t $ nothing t $
@@ -196,7 +202,8 @@ module _ (B : Datum) (S : Declared) (L : LL.Laws S) (φ : B.row.Denot → List �
         some (λ (zs : Last (B.row.exit yes) h × (List ℕ × Unit)). ‵ (lasts by_value (κ, tt) (h, (y, tt)) zs) ⊛ raw (fact 𝓤 (φ h y.now r zs.1.0))))))
         (id⊢ 𝓤 _) $ await t tt $ pick t (λ r. split t $ move t (1 ∷ []) $ pick t (λ zs. split t $ move t (1 ∷ []) $ heard t (φ h y.now r zs.1.0) (λ p.
         -- [what is said of the parameters; the token and the result; …]
-        fsplit t $ drop t $ fsplit t $ fsplit t $ move t (1 ∷ []) $ feq_l t (λ l. move t (2 ∷ []) $ split t $ split t $ move t (2 ∷ []) $
+        fsplit t $ drop t $ fsplit t $ fsplit t $ fsplit t $ move t (1 ∷ []) $ feq_l t (λ l. fjoin t $
+        move t (2 ∷ []) $ split t $ split t $ move t (2 ∷ []) $
         facts t (row S) (Is (row S)) (shows 𝓛 (row S)) r (w ∷ []) (λ came. let same = LL.tells S L r (w ∷ []) came in
         regoal t (λ (v : Val). lands C Λ E to v rest end) (ap only same) refl $ move t (1 ∷ 3 ∷ 2 ∷ 0 ∷ []) $ drop t $ drop t $
         k r zs.1.0 p l (subst (Is (row S) r) same came)))))))
@@ -205,24 +212,27 @@ module _ (B : Datum) (S : Declared) (L : LL.Laws S) (φ : B.row.Denot → List �
 --     let before = *record;  let result = g(before, bytes);  *record = result.RETURNED;  *place = result.POSITION as u32;  result.OUTCOME
 module _ (B : Datum) (S : Declared) (L : LL.Laws S) (returned : Member S L B) (position : Member S L (of_width w64)) (outcome : Member S L (of_width w32))
     (φ : B.row.Denot → List ℕ → S.D → List ℕ → Type 0)
-    (fits : (h : B.row.Denot) (ys : List ℕ) (r : S.D) (zs : List ℕ) → φ h ys r zs → Fits w32 (position.of r)) (g : Name) where
+    (fits : (h : B.row.Denot) (ys : List ℕ) (r : S.D) (zs : List ℕ) → φ h ys r zs → Fits w32 (position.of r)) (g : Callee) where
   abbrev code : Fn
   code = record {
     lifetimes = 3;
     outlives = [];
+    ty_params = [];
+    givens = 0;
     params = 3;
     locals = local (ty_int w32) value_local ∷ local (ty_ref (named 0) mut (pointee B.row.written)) value_local ∷
         local (slice_ty (ty_ref (named 1) mut (ty_int w8))) value_local ∷ local (ty_ref (named 2) mut (ty_int w32)) value_local ∷ local B.ty value_local ∷
-        local (layout (shape S)) value_local ∷ local (ty_ref erased mut (ty_int w8)) value_local ∷ local (slice_ty (ty_ref erased mut (ty_int w8))) value_local ∷
-        local (ty_int w32) value_local ∷ [];
+        local (layout (shape S)) value_local ∷ local (ty_ref erased mut (ty_int w8)) value_local ∷
+        local (slice_ty (ty_ref erased mut (ty_int w8))) value_local ∷ local B.ty value_local ∷ local (ty_int w32) value_local ∷ [];
     body = seq (assign (place 4 []) (rv_opd (copy (place 1 (deref B.ty ∷ [])))))
         (seq (assign (place 6 []) (addr_of (place 2 (field 0 ∷ deref (ty_int w8) ∷ []))))
         (seq (assign (place 7 []) (aggregate (copy (place 6 []) ∷ copy (place 2 (field 1 ∷ [])) ∷ [])))
         (seq (call g (copy (place 4 []) ∷ copy (place 7 []) ∷ []) (place 5 []))
-        (seq (assign (place 1 (deref B.ty ∷ [])) (rv_opd (copy (place 5 (field returned.number ∷ [])))))
-        (seq (assign (place 8 []) (op1 (cast unsigned unsigned w32) (copy (place 5 (field position.number ∷ [])))))
-        (seq (assign (place 3 (deref (ty_int w32) ∷ [])) (rv_opd (copy (place 8 []))))
-        (seq (assign (place 0 []) (rv_opd (copy (place 5 (field outcome.number ∷ []))))) return)))))));
+        (seq (assign (place 8 []) (rv_opd (copy (place 5 (field returned.number ∷ [])))))
+        (seq (assign (place 1 (deref B.ty ∷ [])) (rv_opd (copy (place 8 []))))
+        (seq (assign (place 9 []) (op1 (cast unsigned unsigned w32) (copy (place 5 (field position.number ∷ [])))))
+        (seq (assign (place 3 (deref (ty_int w32) ∷ [])) (rv_opd (copy (place 9 []))))
+        (seq (assign (place 0 []) (rv_opd (copy (place 5 (field outcome.number ∷ []))))) return))))))));
   }
 
   abbrev on_loan : Ended
@@ -252,8 +262,8 @@ module _ (B : Datum) (S : Declared) (L : LL.Laws S) (returned : Member S L B) (p
     abbrev Way : Contract 𝓤
     Way = walk_of 𝓛 on_loan stayed c
 
-    module _ (κ κ' κ'' : Lft) (q q' q'' : Share) (x : MutBor B.row.Denot) (y : MutBor (List ℕ)) (z : MutBor ℕ) (i : (c (κ, (κ', (κ'', tt))) (x, (y, (z, tt)))).ghost)
-        (room : Room u8 (length y.now)) where
+    module _ (κ κ' κ'' : Lft) (q q' q'' : Share) (x : MutBor B.row.Denot) (y : MutBor (List ℕ)) (z : MutBor ℕ)
+        (i : (c (κ, (κ', (κ'', tt))) (x, (y, (z, tt)))).ghost) (room : Room u8 (length y.now)) where
       abbrev bound : Way.Ghost
       bound = (((κ, (κ', (κ'', tt))), (q, (q', (q'', tt))), tt, (x, (y, (z, tt))), (mut_vals x, (mut_slice_vals y, (mut_vals z, tt)))), i)
 
@@ -263,40 +273,42 @@ module _ (B : Datum) (S : Declared) (L : LL.Laws S) (returned : Member S L B) (p
           ⊛ ‵ ((MutSlice erased κ' u8).own_val y (mut_slice_vals y)) ⊛ ‵ ((MutRef erased κ'' u32).own_val z (mut_vals z)) ⊛ ‵ ftrue)
           ∷ raw ((c bound.0.0 bound.0.3).requires i) ∷ []) ∵ split ! $ split3 ! $ move ! (3 ∷ []) $ split3 ! $ move ! (2 ∷ []) $ split ! $
           move ! (6 ∷ []) $ split ! $ keep ! (4 ∷ 6 ∷ 5 ∷ 7 ∷ 2 ∷ 0 ∷ []) $ enter ! C Λ code (Way.args bound) (Way.post bound) $ alloc1 ! (λ l₀.
-          alloc1 ! (λ l₁. alloc1 ! (λ l₂. alloc1 ! (λ l₃. alloc1 ! (λ l₄. alloc1 ! (λ l₅. alloc1 ! (λ l₆. alloc1 ! (λ l₇. alloc1 ! (λ l₈. alloc0 ! $
-          params1 ! $ pass1 ! (init ! 14 refl (tt, tt)) $ pass1 ! (init ! 12 refl (tt, (tt, (record { fits = room.0 }, tt)))) $
-          -- [_8; …; _0; …; the record's reference; its token; the bytes' reference; its token; the place's; its token]
-          pass1 ! (init ! 10 refl (tt, tt)) $ pass0 ! $ move ! (18 ∷ 19 ∷ []) $ opens_datum ! tt B x (λ is.
-          -- [the record; its open borrow; _8; …; _0; …; the bytes' reference; its token; the place's; its token]
-          assigns ! (of_opd ! (load ! (from ! (hop ! (look ! 16 refl) (stop !))) (look ! 0 refl))) (from ! (stop !)) (init ! 10 refl
+          alloc1 ! (λ l₁. alloc1 ! (λ l₂. alloc1 ! (λ l₃. alloc1 ! (λ l₄. alloc1 ! (λ l₅. alloc1 ! (λ l₆. alloc1 ! (λ l₇. alloc1 ! (λ l₈. alloc1 ! (λ l₉.
+          alloc0 ! $ params1 ! $ pass1 ! (init ! 16 refl (tt, tt)) $ pass1 ! (init ! 14 refl (tt, (tt, (record { fits = room.0 }, tt)))) $
+          -- [_9; …; _0; …; the record's reference; its token; the bytes' reference; its token; the place's; its token]
+          pass1 ! (init ! 12 refl (tt, tt)) $ pass0 ! $ move ! (20 ∷ 21 ∷ []) $ opens_datum ! tt B x (λ is.
+          -- [the record; its open borrow; _9; …; _0; …; the bytes' reference; its token; the place's; its token]
+          assigns ! (of_opd ! (load ! (from ! (hop ! (look ! 18 refl) (stop !))) (look ! 0 refl))) (from ! (stop !)) (init ! 12 refl
           (B.typed 𝓛 x.now _ is)) $
-          assigns ! (addr ! (from ! (fld ! refl (hop ! (look_in ! 14 (sub ! 0 refl (whole !))) (stop !))))) (from ! (stop !)) (init ! 6 refl (tt, tt)) $
-          assigns ! (agg ! (and_then ! (load ! (from ! (stop !)) (look ! 6 refl)) (and_then ! (load ! (from ! (fld ! refl (stop !)))
-          (look_in ! 14 (sub ! 1 refl (whole !)))) (no_more !)))) (from ! (stop !)) (init ! 4 refl (tt, (tt, (record { fits = room.0 }, tt)))) $
-          move ! (21 ∷ 20 ∷ []) $ calls_value B S L φ ! fm known x.now y (slice_val y.ref_ptr (length y.now)) is
-          (and_then ! (load ! (from ! (stop !)) (look ! 11 refl)) (and_then ! (load ! (from ! (stop !)) (look ! 5 refl)) (no_more !))) (λ r zs p l came.
-          -- [the last bytes; their token; the record; its open borrow; _8; …; _0; …; the place's reference; its token]
-          land ! (from ! (stop !)) (init ! 10 refl ((LL.lawful S L 𝓛).typed r _ came).0) $
-          assigns ! (of_opd ! (member ! returned 10 r refl refl)) (from ! (hop ! (look ! 18 refl) (stop !))) (store ! 2 refl
+          assigns ! (addr ! (from ! (fld ! refl (hop ! (look_in ! 16 (sub ! 0 refl (whole !))) (stop !))))) (from ! (stop !)) (init ! 8 refl (tt, tt)) $
+          assigns ! (agg ! (and_then ! (load ! (from ! (stop !)) (look ! 8 refl)) (and_then ! (load ! (from ! (fld ! refl (stop !)))
+          (look_in ! 16 (sub ! 1 refl (whole !)))) (no_more !)))) (from ! (stop !)) (init ! 6 refl (tt, (tt, (record { fits = room.0 }, tt)))) $
+          move ! (23 ∷ 22 ∷ []) $ calls_value B S L φ ! fm known x.now y (slice_val y.ref_ptr (length y.now)) is
+          (and_then ! (load ! (from ! (stop !)) (look ! 13 refl)) (and_then ! (load ! (from ! (stop !)) (look ! 7 refl)) (no_more !))) (λ r zs p l came.
+          -- [the last bytes; their token; the record; its open borrow; _9; …; _0; …; the place's reference; its token]
+          land ! (from ! (stop !)) (init ! 12 refl ((LL.lawful S L 𝓛).typed r _ came).0) $
+          assigns ! (of_opd ! (member ! returned 12 r refl refl)) (from ! (stop !)) (init ! 6 refl
+          (B.typed 𝓛 (returned.of r) _ (returned.is r _ came))) $
+          assigns ! (of_opd ! (load ! (from ! (stop !)) (look ! 6 refl))) (from ! (hop ! (look ! 20 refl) (stop !))) (store ! 2 refl
           (B.typed 𝓛 (returned.of r) _ (returned.is r _ came))) $ move ! (2 ∷ 3 ∷ []) $
-          closes_datum ! tt B x (returned.of r) _ (returned.is r _ came) $ move ! (22 ∷ 23 ∷ []) $ opens_datum ! tt (of_width w32) z (λ _.
-          -- [the place; its open borrow; the record's reference; its token; the last bytes; their token; _8; …; _0; …]
-          assigns ! (un ! (member ! position 12 r refl refl) (fits _ _ _ _ p)) (from ! (stop !)) (init ! 6 refl (tt, fits _ _ _ _ p)) $
-          assigns ! (of_opd ! (load ! (from ! (stop !)) (look ! 6 refl))) (from ! (hop ! (look ! 16 refl) (stop !))) (store ! 0 refl (tt, fits _ _ _ _ p)) $
+          closes_datum ! tt B x (returned.of r) _ (returned.is r _ came) $ move ! (24 ∷ 25 ∷ []) $ opens_datum ! tt (of_width w32) z (λ _.
+          -- [the place; its open borrow; the record's reference; its token; the last bytes; their token; _9; …; _0; …]
+          assigns ! (un ! (member ! position 14 r refl refl) (fits _ _ _ _ p)) (from ! (stop !)) (init ! 6 refl (tt, fits _ _ _ _ p)) $
+          assigns ! (of_opd ! (load ! (from ! (stop !)) (look ! 6 refl))) (from ! (hop ! (look ! 18 refl) (stop !))) (store ! 0 refl (tt, fits _ _ _ _ p)) $
           closes_datum ! tt (of_width w32) z (position.of r) _ (refl, (fits _ _ _ _ p).fits) $
-          assigns ! (of_opd ! (member ! outcome 12 r refl refl)) (from ! (stop !)) (init ! 22 refl
-          ((of_width w32).typed 𝓛 (outcome.of r) _ (outcome.is r _ came))) $ returns ! (look ! 22 refl) $
-          move ! (22 ∷ 23 ∷ 20 ∷ 21 ∷ 18 ∷ 19 ∷ 16 ∷ 17 ∷ 14 ∷ 15 ∷ 12 ∷ 13 ∷ 10 ∷ 11 ∷ 8 ∷ 9 ∷ 6 ∷ 7 ∷ []) $
+          assigns ! (of_opd ! (member ! outcome 14 r refl refl)) (from ! (stop !)) (init ! 24 refl
+          ((of_width w32).typed 𝓛 (outcome.of r) _ (outcome.is r _ came))) $ returns ! (look ! 24 refl) $
+          move ! (24 ∷ 25 ∷ 22 ∷ 23 ∷ 20 ∷ 21 ∷ 18 ∷ 19 ∷ 16 ∷ 17 ∷ 14 ∷ 15 ∷ 12 ∷ 13 ∷ 10 ∷ 11 ∷ 8 ∷ 9 ∷ 6 ∷ 7 ∷ []) $ frees_held ! $
           frees_held ! $ frees_held ! $ frees_held ! $ frees_held ! $ frees_held ! $ frees_held ! $ frees_held ! $ frees_held ! $ frees_held ! $ free0 ! $
           -- [the place's reference; its token; the record's reference; its token; the last bytes; their token]
           suffices ! _ (ends_at 𝓛 on_loan stayed c bound (vint w32 (outcome.of r)) (outcome.of r) (returned.of r, (zs, (position.of r, tt)))
           (tt, (l, (tt, tt)))) $ use0 𝓛 (raw ((c bound.0.0 bound.0.3).ensures i (outcome.of r)
           (at_exit on_loan bound.0.0 bound.0.3 (returned.of r, (zs, (position.of r, tt)))))) (so bound.0.0 bound.0.3 i r zs p) $
           owned ! u32 (Is u32) (uint_Makes 𝓛 w32) (outcome.of r) _ (outcome.is r _ came) $ nothing ! $ nothing ! $
-          move ! (6 ∷ 8 ∷ 4 ∷ 0 ∷ []) $ group ! 4 $ move ! (0 ∷ 2 ∷ []) $ join ! $ move ! (4 ∷ 5 ∷ 3 ∷ 1 ∷ []) $ group ! 4 $ join ! $ done !))))))))))))
+          move ! (6 ∷ 8 ∷ 4 ∷ 0 ∷ []) $ group ! 4 $ move ! (0 ∷ 2 ∷ []) $ join ! $ move ! (4 ∷ 5 ∷ 3 ∷ 1 ∷ []) $ group ! 4 $ join ! $ done !)))))))))))))
 
   -- the thin function k keeps its promise where g keeps its own
-  pub thin_keeps : {M : Type 1} {𝓤 : Ura M} (𝓛 : Logic 𝓤) (𝓜 : Model 𝓤 𝓛.H) (𝓡 : Running 𝓤 𝓛.H 𝓜) (γ : Routines) (k : Name)
+  pub thin_keeps : {M : Type 1} {𝓤 : Ura M} (𝓛 : Logic 𝓤) (𝓜 : Model 𝓤 𝓛.H) (𝓡 : Running 𝓤 𝓛.H 𝓜) (γ : Routines) (k : Callee)
       → Closed 𝓤 𝓛.H (tables 𝓤 𝓛.H 𝓜 𝓡 γ).C (tables 𝓤 𝓛.H 𝓜 𝓡 γ).Λ k code → (routine : Routine) → γ g ≡ routine
       → Triple 𝓤 (𝓡.run routine) (Value B S L φ 𝓛) → (c : Clauses 𝓤 on_loan) → Promised 𝓤 c
       → Triple 𝓤 ((tables 𝓤 𝓛.H 𝓜 𝓡 γ).C k) (triple_of 𝓛 on_loan.signature (closing 𝓛 on_loan c))

@@ -4,7 +4,7 @@ use Rattle.board.proofs.settings.has_sides.Goals as goal
 
 pub returns-then-is_side : goal.returns-then-is_side
 unfolding sides
-returns-then-is_side c = both_asked _ _ c.is_side.ensures c.if-is_side.true c.is_side-2.ensures
+returns-then-is_side c = both_asked _ _ c.is_side.ensures c.if-is_side.true c.is_side-then-is_side.ensures
 
 pub returns-else-is_side : goal.returns-else-is_side
 unfolding sides

@@ -4,7 +4,7 @@ use Rattle.board.proofs.settings.is_offset.Goals as goal
 
 pub returns-then-offset_fits : goal.returns-then-offset_fits
 unfolding offsets
-returns-then-offset_fits c = both_asked _ _ c.offset_fits.ensures c.if-offset_fits.true c.offset_fits-2.ensures
+returns-then-offset_fits c = both_asked _ _ c.offset_fits.ensures c.if-offset_fits.true c.offset_fits-then-offset_fits.ensures
 
 pub returns-else-offset_fits : goal.returns-else-offset_fits
 unfolding offsets

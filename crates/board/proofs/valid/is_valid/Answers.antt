@@ -4,10 +4,6 @@ use Rattle.board.proofs.valid.is_valid.Goals as goal
 pub returns : goal.returns
 unfolding valid
 returns c =
-    let display = c.before in
-    let voltages = display.before.before in
-    let clocks = voltages.before.before in
-    let devices = clocks.before.before in
-    rw (c.both.ensures, c.valid_memory.ensures, display.both4.ensures, display.before.valid-display.ensures)
-    (rw (voltages.both3.ensures, voltages.before.valid-voltages.ensures, clocks.both2.ensures, clocks.before.valid-clocks.ensures)
-    (rw (devices.both.ensures, devices.before.valid-devices.ensures, devices.before.before.valid-facts.ensures)))
+    rw (c.both.ensures, c.valid_memory.ensures, c.both-valid-4.ensures, c.valid_display.ensures)
+    (rw (c.both-valid-3.ensures, c.valid_voltages.ensures, c.both-valid-2.ensures, c.valid_clocks.ensures)
+    (rw (c.both-valid.ensures, c.valid_devices.ensures, c.valid_facts-valid.ensures)))

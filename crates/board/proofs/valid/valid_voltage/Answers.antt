@@ -4,7 +4,5 @@ use Rattle.board.proofs.valid.valid_voltage.Goals as goal
 pub returns : goal.returns
 unfolding valid_voltage
 returns c =
-    let most = c.before in
-    let kept = most.before.before in
-    rw (c.either.ensures, c.both.ensures, most.at-most3.ensures, kept.both.ensures)
-    (rw (kept.before.at-most2.ensures, kept.before.before.at_most.ensures))
+    rw (c.either.ensures, c.both.ensures, c.at_most-3.ensures, c.both-kept.ensures)
+    (rw (c.at_most-2.ensures, c.at_most.ensures))

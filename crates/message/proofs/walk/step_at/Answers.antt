@@ -12,14 +12,9 @@ returns-then-size-value c = search step_cut
 
 pub returns-then-size-next : goal.returns-then-size-next
 returns-then-size-next c =
-    let at_size = c.before in
-    let at-if2 = at_size.before.before in
-    step_over _ _ _ at-if2.before.before.if1.false at-if2.before.u32-at.ensures at-if2.if2.false at_size.u32-at2.ensures
-    c.padded.ensures c.if-size-next.true
+    step_over _ _ _ c.if-p-size.false c.u32_at-id.ensures c.if-id-eq0.false c.u32_at-v.ensures c.padded.ensures c.if-size-next.true
 
 pub returns : goal.returns
 returns c =
-    let at_size = c.before in
-    let at-if2 = at_size.before.before in
-    step_tag _ _ _ at-if2.before.before.if1.false at-if2.before.u32-at.ensures at-if2.if2.false at_size.u32-at2.ensures
-    c.padded.ensures c.if-size-next.false c.u32_at-3.ensures
+    step_tag
+    _ _ _ c.if-p-size.false c.u32_at-id.ensures c.if-id-eq0.false c.u32_at-v.ensures c.padded.ensures c.if-size-next.false c.u32_at-word.ensures
