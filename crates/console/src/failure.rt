@@ -1,4 +1,6 @@
 // What failed, on standard error.
+ghost use Rattle.std.specs.Prelude.{◌≡◌};
+
 use std::io;
 use std::io::Write;
 
@@ -24,7 +26,9 @@ fn say(rt: &impl Eprint, what: &[u8], reason: &str) -> io::Result<()> {
 
 // Writes a line to standard error: what failed, as the caller names it, a colon and the reason. Bytes
 // of a name that are not UTF-8 are escaped. A line that cannot be written is dropped.
-pub fn fail(rt: &impl Eprint, what: &[u8], error: io::Error) {
+pub fn fail(rt: &impl Eprint, what: &[u8], error: io::Error)
+    ensures { result ≡ tt }
+{
     let mut text = [0u8; 256];
     let mut room = &mut text[..];
     let _ = write!(room, "{error}");

@@ -39,10 +39,18 @@ fn check_end(file: &mut impl Read) -> io::Result<()> {
     Err(io::Error::other("more bytes follow those that were read"))
 }
 
-// Has the system say what it could not write. What is no file on a disk cannot be asked.
+// Whether a sync fails for the kind of file, as a pipe, and not for what was written.
+fn has_no_sync(error: io::Error) -> bool {
+    matches!(
+        error.kind(),
+        ErrorKind::InvalidInput | ErrorKind::Unsupported
+    )
+}
+
+// Fails where the system took the bytes and then could not write them.
 fn check_written(file: &impl OpenFile) -> io::Result<()> {
     match file.sync_data() {
-        Err(error) if error.kind() != ErrorKind::InvalidInput => Err(error),
+        Err(error) if !has_no_sync(error) => Err(error),
         _ => Ok(()),
     }
 }

@@ -6,7 +6,7 @@ use file::serve::serve_file;
 use std::env::{Env, FillError};
 use std::io::Error;
 
-// What an argument above 4,096 bytes is: no path is as long.
+// The system's number for a name that is too long: no path has more than 4,095 bytes.
 const NAME_TOO_LONG: i32 = 36;
 
 fn main(rt: HostRuntime) {
