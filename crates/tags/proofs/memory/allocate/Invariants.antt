@@ -1,0 +1,9 @@
+use Prim.Native.Nat.{◌-◌}
+use Rattle.tags.proofs.Laws.Memory.{Searching}
+use Rattle.tags.proofs.memory.allocate.Given as goal
+
+abbrev pub invariant-loop-a : goal.invariant-loop-a
+invariant-loop-a l = Searching l.blocks l.last l.size l.alignment l.initial.a l.a
+
+abbrev pub decreases-loop-a : goal.decreases-loop-a
+decreases-loop-a l = l.last - l.a
