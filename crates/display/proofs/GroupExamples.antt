@@ -139,14 +139,16 @@ group_cases =
     ∷ group_case (Operated (large_screen 0x8000_0001 0x7FFF_FFFE nowhere) (allocate_tag 0x8000_0000 ∷ []))
     (Answers (two_words 0 0 ∷ []) (large_screen 0x8000_0001 0x7FFF_FFFE nowhere))
     -- tests
-    ∷ group_case (Operated lab_standing (test_tag Setting.Depth (le 4 8) ∷ test_tag Setting.Depth (le 4 16) ∷ [])) (Answers (le 4 16 ∷ le 4 16 ∷ []) lab_standing)
+    ∷ group_case (Operated lab_standing (test_tag Setting.Depth (le 4 8) ∷ test_tag Setting.Depth (le 4 16) ∷ []))
+    (Answers (le 4 16 ∷ le 4 16 ∷ []) lab_standing)
     ∷ group_case (Operated lab_standing (test_tag Setting.Depth (le 4 12) ∷ [])) (Answers (le 4 24 ∷ []) lab_standing)
     ∷ group_case (Operated lab_standing (set_tag Setting.Depth (le 4 16) ∷ test_tag Setting.Depth (le 4 8) ∷ release_tag ∷ [])) (Answers [] lab_standing)
     -- sets and gets
     ∷ group_case (Operated lab (get_tag Setting.Depth ∷ set_tag Setting.Depth (le 4 8) ∷ set_tag Setting.Depth (le 4 32) ∷ pitch_tag ∷ [])) (Answers
     (le 4 32 ∷ le 4 32 ∷ le 4 32 ∷ le 4 2560 ∷ []) (screen_of 640 480 32 lab_region nowhere))
     ∷ group_case (Operated lab_standing (set_tag Setting.Depth (le 4 32) ∷ [])) (Answers (le 4 24 ∷ []) lab_standing)
-    ∷ group_case (Operated lab_standing (set_tag Setting.Depth (le 4 32) ∷ release_tag ∷ [])) (Answers (le 4 32 ∷ [] ∷ []) (screen_of 640 480 32 lab_region nowhere))
+    ∷ group_case (Operated lab_standing (set_tag Setting.Depth (le 4 32) ∷ release_tag ∷ []))
+    (Answers (le 4 32 ∷ [] ∷ []) (screen_of 640 480 32 lab_region nowhere))
     ∷ group_case (Operated lab_standing (set_tag Setting.Depth (le 4 25) ∷ release_tag ∷ [])) (Answers (le 4 24 ∷ [] ∷ []) lab_standing)
     ∷ group_case (Operated lab_standing (allocate_tag 16 ∷ release_tag ∷ [])) (Answers (lab_buffer ∷ [] ∷ []) lab_standing)
     -- virtual offsets
@@ -160,5 +162,6 @@ group_cases =
     ∷ []
 
 pub group_examples : map (λ (c : GroupCase). group_reply c.asks_for) group_cases ≡ map (λ (c : GroupCase). c.gets) group_cases
-unfolding group_cases number_at nth_word one_bit ones_in supported_from pitch need sides depths offsets possible supported with_setting noted placed_at allocatable fits_buffer accepted decided group_answer
+unfolding group_cases number_at nth_word one_bit ones_in supported_from pitch need sides depths
+    offsets possible supported with_setting noted placed_at allocatable fits_buffer accepted decided group_answer
 group_examples = refl
