@@ -17,7 +17,7 @@ use Rattle.board.specs.declared.memory.Block.{Block}
 use Rattle.board.specs.declared.record.Board.{Board}
 use Rattle.tags.proofs.Laws.Memory.{Fits, fits_is, fits_by, address_is, free_is, free_most, grants_is}
 use Rattle.tags.proofs.Laws.Memory.{size_refused, alignment_refused, place_refused, address_refused, is_granted}
-use Rattle.tags.specs.Memory.{is_free, free_handle, fits_at, lowest_address, grants, new_block, allocation, granted_handle}
+use Rattle.tags.specs.Memory.{is_free, free_handle, lowest_address, grants, new_block, allocation, granted_handle}
 use Rattle.tags.specs.declared.memory.Allocation.{Allocation}
 use Rattle.responder.proofs.Laws.Responding.{valid_heap_of}
 use Rattle.responder.specs.Reply.{reply}

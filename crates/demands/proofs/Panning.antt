@@ -1,6 +1,4 @@
 -- Of supported settings, and of those that a call leaves, the shown part lies in the virtual picture.
-use mathlib.Core.Bool.{true}
-use mathlib.Core.Path.{◌≡◌}
 use Rattle.board.proofs.Laws.Display.{offset_shown, possible_is, supported_is, display_parts}
 use Rattle.board.proofs.Laws.Record.{valid_parts}
 use Rattle.responder.specs.Reply.{reply}

@@ -7,7 +7,7 @@ use mathlib.Core.Path.{◌≡◌, refl}
 use Prim.Native.Nat.{ℕ, zero, suc, ◌≤◌, ◌<◌}
 use native.Mathlib.Omega.{arith}
 use lib.Count.{ones_in}
-use lib.Dec.{lit≤, lit<}
+use lib.Dec.{lit≤}
 use lib.ListN.{get_or}
 use Rattle.words.specs.Align.{one_bit}
 use Rattle.words.specs.Numbers.{number_at, nth_word, word_bytes}
