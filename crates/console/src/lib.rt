@@ -1,77 +1,82 @@
-// Text and numbers on standard output.
+// Text and numbers on standard output, what failed on standard error, and bytes that are read.
 #![tactic(auto)]
 
-ghost use Rattle.std.specs.Prelude.{◌≡◌};
+ghost use Rattle.std.specs.Prelude.{◌≡◌, IfOk};
 
-use libc::STDOUT_FILENO;
+pub mod failure;
+pub mod reading;
+
+use std::io;
 use words::numbers::u32_at;
 
-pub fn print_text(words: &[u8])
-    ensures { result ≡ tt }
+pub fn print_text(rt: &impl Print, words: &[u8]) -> io::Result<()>
+    ensures { IfOk result (λ u. u ≡ tt) }
 {
-    io::write_all(STDOUT_FILENO, words);
+    rt.write_all(words)
 }
 
 // A name and a number.
-pub fn print_number(name: &[u8], n: u64)
-    ensures { result ≡ tt }
+pub fn print_number(rt: &impl Print, name: &[u8], n: u64) -> io::Result<()>
+    ensures { IfOk result (λ u. u ≡ tt) }
 {
-    print_text(name);
-    io::print_decimal(STDOUT_FILENO, n);
+    print_text(rt, name)?;
+    print!(rt; "{n}")
 }
 
 // A name and a word in hexadecimal.
-pub fn print_word(name: &[u8], n: u32)
-    ensures { result ≡ tt }
+pub fn print_word(rt: &impl Print, name: &[u8], n: u32) -> io::Result<()>
+    ensures { IfOk result (λ u. u ≡ tt) }
 {
-    print_text(name);
-    io::print_hex(STDOUT_FILENO, n as u64, 8);
+    print_text(rt, name)?;
+    print!(rt; "{n:08x}")
 }
 
-fn word_at(bytes: &[u8], p: usize) {
+fn word_at(rt: &impl Print, bytes: &[u8], p: usize) -> io::Result<()> {
     if bytes.len() < p {
-        return;
+        return Ok(());
     }
     if bytes.len() - p < 4 {
-        return;
+        return Ok(());
     }
-    print_word(b" ", u32_at(bytes, p));
+    print_word(rt, b" ", u32_at(bytes, p))
 }
 
-fn words_in(bytes: &[u8]) {
+fn words_in(rt: &impl Print, bytes: &[u8]) -> io::Result<()> {
     let mut p = 0;
     while p < bytes.len() {
-        word_at(bytes, p);
+        word_at(rt, bytes, p)?;
         p += 4;
     }
+    Ok(())
 }
 
 // The words of a run of bytes, in one line.
-pub fn print_words(bytes: &[u8])
-    ensures { result ≡ tt }
+pub fn print_words(rt: &impl Print, bytes: &[u8]) -> io::Result<()>
+    ensures { IfOk result (λ u. u ≡ tt) }
 {
-    words_in(bytes);
-    print_text(b"\n");
+    words_in(rt, bytes)?;
+    print_text(rt, b"\n")
 }
 
 // A blank and a byte in hexadecimal.
-fn print_byte(n: u8) {
-    print_text(b" ");
-    io::print_hex(STDOUT_FILENO, n as u64, 2);
+fn print_byte(rt: &impl Print, n: u8) -> io::Result<()> {
+    print_text(rt, b" ")?;
+    print!(rt; "{n:02x}")
 }
 
-fn bytes_in(bytes: &[u8]) {
+fn bytes_in(rt: &impl Print, bytes: &[u8]) -> io::Result<()> {
     let mut p = 0;
     while p < bytes.len() {
-        print_byte(bytes[p]);
+        print_byte(rt, bytes[p])?;
         p += 1;
     }
+    Ok(())
 }
 
 // The bytes of a run, in one line.
-pub fn print_bytes(bytes: &[u8])
-    ensures { result ≡ tt }
+pub fn print_bytes(rt: &impl Print, bytes: &[u8]) -> io::Result<()>
+    ensures { IfOk result (λ u. u ≡ tt) }
 {
-    bytes_in(bytes);
-    print_text(b"\n");
+    bytes_in(rt, bytes)?;
+    print_text(rt, b"\n")
 }

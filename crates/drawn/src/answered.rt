@@ -1,5 +1,5 @@
 // Messages that are served, and what they hold afterwards.
-ghost use Rattle.std.specs.Prelude.{◌≡◌};
+ghost use Rattle.std.specs.Prelude.{◌≡◌, IfOk};
 ghost use Rattle.board.specs.Bench.{bench};
 ghost use Rattle.responder.specs.Reply.{reply};
 
@@ -9,74 +9,82 @@ use board::record::Board;
 use console::print_words;
 use message::lister::list;
 use responder::respond::respond;
+use std::io;
 use words::numbers::put_u32;
 
 // Serves the bytes, prints outcome, place, words, display and blocks, and gives the record afterwards.
-pub fn serve_and_draw(name: &[u8], board: Board, bytes: &mut [u8]) -> Board
+pub fn serve_and_draw(
+    rt: &impl Print,
+    name: &[u8],
+    board: Board,
+    bytes: &mut [u8],
+) -> io::Result<Board>
     ensures bytes_after { bytes.new ≡ (reply board bytes.old).bytes }
-    ensures value { result ≡ (reply board bytes.old).answer.board }
+    ensures value { IfOk result (λ b. b ≡ (reply board bytes.old).answer.board) }
 {
     let served = respond(board, bytes);
-    lines::of_served(name, served.outcome, served.place);
-    print_words(bytes);
+    lines::of_served(rt, name, served.outcome, served.place)?;
+    print_words(rt, bytes)?;
     let after = served.board;
-    lines::of_display(after.display);
+    lines::of_display(rt, after.display)?;
     let left = after.blocks;
-    blocks::of_blocks(left);
-    after
+    blocks::of_blocks(rt, left)?;
+    Ok(after)
 }
 
 // A message of no tags in 11 of its 12 bytes.
-pub fn eleven()
-    ensures { result ≡ tt }
+pub fn eleven(rt: &impl Print) -> io::Result<()>
+    ensures { IfOk result (λ u. u ≡ tt) }
 {
     let mut lent = [0u8; 11];
     lent[0] = 12;
-    serve_and_draw(b"lent 11", bench_record(), &mut lent);
+    serve_and_draw(rt, b"lent 11", bench_record(), &mut lent)?;
+    Ok(())
 }
 
 // A message of no tags.
-fn serve_empty(name: &[u8], board: Board) {
+fn serve_empty(rt: &impl Print, name: &[u8], board: Board) -> io::Result<()> {
     let mut lent = [0u8; 12];
     lent[0] = 12;
-    serve_and_draw(name, board, &mut lent);
+    serve_and_draw(rt, name, board, &mut lent)?;
+    Ok(())
 }
 
 // A record whose DMA mask has bit 16.
-pub fn invalid()
-    ensures { result ≡ tt }
+pub fn invalid(rt: &impl Print) -> io::Result<()>
+    ensures { IfOk result (λ u. u ≡ tt) }
 {
     let mut board = bench_record();
     board.facts.dma = 0x1_0000;
-    serve_empty(b"record not valid", board);
+    serve_empty(rt, b"record not valid", board)
 }
 
 // A record that shows 800 columns of a virtual picture of 800, from column 799 on.
-pub fn beyond_picture()
-    ensures { result ≡ tt }
+pub fn beyond_picture(rt: &impl Print) -> io::Result<()>
+    ensures { IfOk result (λ u. u ≡ tt) }
 {
     let mut board = bench_record();
     board.display.settings.offset.x = 799;
-    serve_empty(b"record with offset 799 of 800", board);
+    serve_empty(rt, b"record with offset 799 of 800", board)
 }
 
 // A message of no tags with this size word, in 65,540 bytes.
-pub fn long_message(name: &[u8], size: u32)
-    ensures { result ≡ tt }
+pub fn long_message(rt: &impl Print, name: &[u8], size: u32) -> io::Result<()>
+    ensures { IfOk result (λ u. u ≡ tt) }
 {
     let mut lent = [0u8; 65540];
     put_u32(&mut lent, 0, size);
     let served = respond(bench_record(), &mut lent);
-    lines::of_served(name, served.outcome, served.place);
+    lines::of_served(rt, name, served.outcome, served.place)
 }
 
 // The largest message, with its first and last tag.
-pub fn serve_largest(bytes: &mut [u8])
+pub fn serve_largest(rt: &impl Print, bytes: &mut [u8]) -> io::Result<()>
     ensures { bytes.new ≡ (reply bench bytes.old).bytes }
 {
     let served = respond(bench_record(), bytes);
-    lines::of_served(b"5460 tags served", served.outcome, served.place);
-    lines::of_listed(b"tag 0", list(bytes, 0));
-    lines::of_listed(b"tag 5459", list(bytes, 5459));
-    lines::of_listed(b"tag 5460", list(bytes, 5460));
+    lines::of_served(rt, b"5460 tags served", served.outcome, served.place)?;
+    lines::of_listed(rt, b"tag 0", list(bytes, 0))?;
+    lines::of_listed(rt, b"tag 5459", list(bytes, 5459))?;
+    lines::of_listed(rt, b"tag 5460", list(bytes, 5460))
 }

@@ -1,5 +1,5 @@
 // Answers that are read, or the default in their place.
-ghost use Rattle.std.specs.Prelude.{◌≡◌};
+ghost use Rattle.std.specs.Prelude.{◌≡◌, IfOk};
 
 use crate::ids;
 use board::bench::bench_record;
@@ -7,16 +7,17 @@ use console::{print_bytes, print_number, print_text};
 use message::builder;
 use message::reader::{part_or, read};
 use responder::respond::respond;
+use std::io;
 use words::bytes::prefix;
 
 // The outcome of a reading, and the bytes that are shown where six others are the default.
-fn draw_or(name: &[u8], message: &[u8], id: u32, wanted: usize) {
+fn draw_or(rt: &impl Print, name: &[u8], message: &[u8], id: u32, wanted: usize) -> io::Result<()> {
     let default = [1, 2, 3, 4, 5, 6];
     let reading = read(message, id, 0, wanted);
-    print_text(name);
-    print_number(b": outcome ", reading.outcome as u64);
-    print_text(b" shows");
-    print_bytes(part_or(message, id, 0, wanted, &default));
+    print_text(rt, name)?;
+    print_number(rt, b": outcome ", reading.outcome as u64)?;
+    print_text(rt, b" shows")?;
+    print_bytes(rt, part_or(message, id, 0, wanted, &default))
 }
 
 // A request for the MAC address in a value of four bytes, and an unknown tag.
@@ -27,27 +28,28 @@ fn build_request(buffer: &mut [u8]) {
     builder::finish(buffer, end);
 }
 
-fn draw_reply(reply: &[u8]) {
+fn draw_reply(rt: &impl Print, reply: &[u8]) -> io::Result<()> {
     draw_or(
+        rt,
         b"MAC address in 4 bytes, 4 wanted",
         reply,
         ids::MAC_ADDRESS,
         4,
-    );
-    draw_or(b"5 wanted", reply, ids::MAC_ADDRESS, 5);
-    draw_or(b"6 wanted", reply, ids::MAC_ADDRESS, 6);
-    draw_or(b"0 wanted", reply, ids::MAC_ADDRESS, 0);
-    draw_or(b"no such tag", reply, ids::SERIAL, 4);
-    draw_or(b"not answered", reply, ids::UNKNOWN, 0);
-    draw_or(b"lent 11", prefix(reply, 11), ids::MAC_ADDRESS, 4);
+    )?;
+    draw_or(rt, b"5 wanted", reply, ids::MAC_ADDRESS, 5)?;
+    draw_or(rt, b"6 wanted", reply, ids::MAC_ADDRESS, 6)?;
+    draw_or(rt, b"0 wanted", reply, ids::MAC_ADDRESS, 0)?;
+    draw_or(rt, b"no such tag", reply, ids::SERIAL, 4)?;
+    draw_or(rt, b"not answered", reply, ids::UNKNOWN, 0)?;
+    draw_or(rt, b"lent 11", prefix(reply, 11), ids::MAC_ADDRESS, 4)
 }
 
-pub fn cases()
-    ensures { result ≡ tt }
+pub fn cases(rt: &impl Print) -> io::Result<()>
+    ensures { IfOk result (λ u. u ≡ tt) }
 {
     let mut lent = [0u8; 48];
     build_request(&mut lent);
-    draw_or(b"MAC address not served", &lent, ids::MAC_ADDRESS, 4);
+    draw_or(rt, b"MAC address not served", &lent, ids::MAC_ADDRESS, 4)?;
     respond(bench_record(), &mut lent);
-    draw_reply(&lent);
+    draw_reply(rt, &lent)
 }

@@ -12,19 +12,21 @@ mod lines;
 mod listed;
 mod messages;
 
-fn main() {
-    listed::cases();
-    built::largest_request();
-    built::screen_request();
-    built::refused_calls();
-    answered::eleven();
-    answered::invalid();
-    answered::beyond_picture();
-    answered::long_message(b"size 65532", 65532);
-    answered::long_message(b"size 65536", 65536);
-    answered::long_message(b"size 65540", 65540);
-    built::largest_served();
-    defaults::cases();
-    kept::cases();
-    messages::serve_input();
+use std::io;
+
+fn main(rt: HostRuntime) -> io::Result<()> {
+    listed::cases(&rt)?;
+    built::largest_request(&rt)?;
+    built::screen_request(&rt)?;
+    built::refused_calls(&rt)?;
+    answered::eleven(&rt)?;
+    answered::invalid(&rt)?;
+    answered::beyond_picture(&rt)?;
+    answered::long_message(&rt, b"size 65532", 65532)?;
+    answered::long_message(&rt, b"size 65536", 65536)?;
+    answered::long_message(&rt, b"size 65540", 65540)?;
+    built::largest_served(&rt)?;
+    defaults::cases(&rt)?;
+    kept::cases(&rt)?;
+    messages::serve_input(&rt)
 }

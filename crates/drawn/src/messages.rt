@@ -1,14 +1,15 @@
 // Messages from standard input, one to a line: `-` and a name, a colon, and words in hexadecimal. A
 // message is served on the bench record, or, with `+` for `-`, on the record that the one before it
 // left. Any other line is copied.
-ghost use Rattle.std.specs.Prelude.{◌≡◌, ◌<◌, ◌≤◌, length};
-ghost use Rattle.io.specs.Counts.{IsPrefixLen};
+ghost use Rattle.std.specs.Prelude.{◌≡◌, ◌<◌, ◌≤◌, IfOk, length};
+ghost use Rattle.console.specs.Counts.{IsPrefixLen};
 
 use crate::answered::serve_and_draw;
 use board::bench::bench_record;
 use board::record::Board;
 use console::print_text;
-use libc::STDIN_FILENO;
+use console::reading::read_full;
+use std::io;
 use words::numbers::{put_u32, u32_at};
 
 // The place of the first such byte from `at` on, or the end.
@@ -68,42 +69,43 @@ fn put_words(bytes: &mut [u8], words: &[u8]) -> usize
     n
 }
 
-fn serve_message(board: Board, line: &[u8]) -> Board {
+fn serve_message(rt: &impl Print, board: Board, line: &[u8]) -> io::Result<Board> {
     let colon = position_of(line, 0, b':');
     let mut buffer = [0u8; 1024];
     let n = put_words(&mut buffer, &line[colon..]);
-    serve_and_draw(&line[..colon], board, &mut buffer[..n])
+    serve_and_draw(rt, &line[..colon], board, &mut buffer[..n])
 }
 
 // Takes a line, and gives the record for the next.
-fn take_line(board: Board, line: &[u8]) -> Board {
+fn take_line(rt: &impl Print, board: Board, line: &[u8]) -> io::Result<Board> {
     if line.len() > 0 {
         if line[0] == b'-' {
-            return serve_message(bench_record(), line);
+            return serve_message(rt, bench_record(), line);
         }
         if line[0] == b'+' {
-            return serve_message(board, line);
+            return serve_message(rt, board, line);
         }
     }
-    print_text(line);
-    print_text(b"\n");
-    board
+    print_text(rt, line)?;
+    print_text(rt, b"\n")?;
+    Ok(board)
 }
 
-fn take_lines(lines: &[u8]) {
+fn take_lines(rt: &impl Print, lines: &[u8]) -> io::Result<()> {
     let mut board = bench_record();
     let mut at = 0;
     while at < lines.len() {
         let end = position_of(lines, at, b'\n');
-        board = take_line(board, &lines[at..end]);
+        board = take_line(rt, board, &lines[at..end])?;
         at = end + 1;
     }
+    Ok(())
 }
 
-pub fn serve_input()
-    ensures { result ≡ tt }
+pub fn serve_input(rt: &(impl Print + Input)) -> io::Result<()>
+    ensures { IfOk result (λ u. u ≡ tt) }
 {
-    let mut buffer = io::large_buffer();
-    let n = io::read_full(STDIN_FILENO, &mut buffer);
-    take_lines(&buffer[..n]);
+    let mut buffer = [0u8; 65536];
+    let n = read_full(&mut rt.reader(), &mut buffer);
+    take_lines(rt, &buffer[..n])
 }

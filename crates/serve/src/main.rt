@@ -1,20 +1,21 @@
 // Serves the message file that the first argument names, on the bench record.
 #![tactic(auto)]
 
+use console::failure::fail;
 use file::serve::serve_file;
-use libc::STDERR_FILENO;
+use std::env::{Env, FillError};
+use std::io::Error;
 
-fn main() {
-    let mut path = io::buffer();
-    let n = os::arg(1, &mut path);
-    let error = os::errno();
-    if error == libc::EINVAL {
-        io::write_all(STDERR_FILENO, b"name a message file: serve FILE\n");
-        return;
+// The system's number for a name that is too long: no path has more than 4,095 bytes.
+const NAME_TOO_LONG: i32 = 36;
+
+fn main(rt: HostRuntime) {
+    let mut path = [0u8; 4096];
+    match rt.arg(1, &mut path) {
+        Ok(n) => serve_file(&rt, &path[..n]),
+        Err(FillError::NotPresent) => {
+            let _ = eprintln!(rt; "name a message file: serve FILE");
+        }
+        Err(FillError::TooLong) => fail(&rt, b"FILE", Error::from_raw_os_error(NAME_TOO_LONG)),
     }
-    if error != 0 {
-        os::fail(b"FILE");
-        return;
-    }
-    serve_file(&path[..n]);
 }

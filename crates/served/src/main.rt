@@ -1,50 +1,64 @@
 // Serves message files, and writes out what they hold afterwards.
 #![tactic(auto)]
 
+use console::failure::fail;
+use console::reading::read_full;
+use console::{print_number, print_text, print_words};
 use file::serve::serve_file;
+use std::fs::OpenOptions;
+use std::io::{Read, Write};
+use std::rt::Files;
+use std::{fs, io};
 
 // A file one byte longer than a message may be, that begins as a message of 12 bytes.
-fn make_long(path: &[u8]) {
+fn make_long(rt: &impl Files, path: &str) -> io::Result<()> {
     let mut bytes = [0u8; 65537];
     bytes[0] = 12;
-    let file = os::create(path);
-    io::write_all(file, &bytes);
-    libc::close(file);
+    let mut file = OpenOptions::new()
+        .write(true)
+        .create_new(true)
+        .open(rt, path)?;
+    file.write_all(&bytes)
 }
 
 // How many bytes there are, and the words of the first 80.
-fn show_bytes(bytes: &[u8]) {
-    console::print_number(b"bytes ", bytes.len() as u64);
-    console::print_text(b":");
-    let n = io::count(80, bytes);
-    console::print_words(&bytes[..n]);
+fn show_bytes(rt: &impl Print, bytes: &[u8]) -> io::Result<()> {
+    print_number(rt, b"bytes ", bytes.len() as u64)?;
+    print_text(rt, b":")?;
+    let n = bytes.len().min(80);
+    print_words(rt, &bytes[..n])
 }
 
-fn show_file(path: &[u8]) {
-    let file = os::open_read(path);
-    if file < 0 {
-        os::fail(path);
-        return;
-    }
+fn show_open(rt: &impl Print, mut file: impl Read + Drop) -> io::Result<()> {
     let mut buffer = [0u8; 65540];
-    let n = io::read_full(file, &mut buffer);
-    libc::close(file);
-    show_bytes(&buffer[..n]);
+    let n = read_full(&mut file, &mut buffer);
+    show_bytes(rt, &buffer[..n])
 }
 
-fn serve_and_show(path: &[u8]) {
-    console::print_text(path);
-    console::print_text(b"\n");
-    serve_file(path);
-    show_file(path);
+fn show_file(rt: &(impl Files + Print + Eprint), path: &str) -> io::Result<()> {
+    match fs::open(rt, path) {
+        Ok(file) => show_open(rt, file),
+        Err(error) => {
+            fail(rt, path.as_bytes(), error);
+            Ok(())
+        }
+    }
 }
 
-fn main() {
-    serve_and_show(b"screen.msg");
-    serve_and_show(b"fault.msg");
-    serve_and_show(b"reply.msg");
-    serve_and_show(b"empty.msg");
-    make_long(b"long.msg");
-    serve_and_show(b"long.msg");
-    serve_and_show(b"missing.msg");
+fn serve_and_show(rt: &(impl Files + Print + Eprint), path: &str) -> io::Result<()> {
+    print_text(rt, path.as_bytes())?;
+    print_text(rt, b"\n")?;
+    serve_file(rt, path.as_bytes());
+    show_file(rt, path)
+}
+
+fn main(rt: HostRuntime) -> io::Result<()> {
+    serve_and_show(&rt, "screen.msg")?;
+    serve_and_show(&rt, "fault.msg")?;
+    serve_and_show(&rt, "reply.msg")?;
+    serve_and_show(&rt, "empty.msg")?;
+    // A file that is there already stays, and is served.
+    let _ = make_long(&rt, "long.msg");
+    serve_and_show(&rt, "long.msg")?;
+    serve_and_show(&rt, "missing.msg")
 }
