@@ -9,14 +9,14 @@ pub returns-in_default : goal.returns-in_default
 returns-in_default c = ask_unknown _ _ c.row_of-row.ensures c.in_default.is
 
 pub returns-then-tag-least : goal.returns-then-tag-least
-returns-then-tag-least c = ask_short _ _ c.if-tag-ge2147483648.false c.row_of-row.ensures c.in-Known.is c.if-tag-least.true
+returns-then-tag-least c = ask_short _ _ (omega arith) c.row_of-row.ensures c.in-Known.is c.if-tag-least.true
 
 pub returns-in-Outside : goal.returns-in-Outside
 returns-in-Outside c =
-    ask_outside _ _ c.if-tag-ge2147483648.false c.row_of-row.ensures c.in-Known.is c.if-tag-least.false c.requires
+    ask_outside _ _ (omega arith) c.row_of-row.ensures c.in-Known.is c.if-tag-least.false c.requires
     c.request_length-count.ensures c.in-Outside.is
 
 pub returns-in-Group : goal.returns-in-Group
 returns-in-Group c =
-    ask_group _ _ c.if-tag-ge2147483648.false c.row_of-row.ensures c.in-Known.is c.if-tag-least.false c.requires
+    ask_group _ _ (omega arith) c.row_of-row.ensures c.in-Known.is c.if-tag-least.false c.requires
     c.request_length-count.ensures c.in-Group.is
