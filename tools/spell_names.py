@@ -92,6 +92,8 @@ def turned_to_declared(text, table, names):
 
 
 def main():
+    if "answer_stored" in declared():
+        sys.exit("spell_names: the names have today's spelling: nothing to do")
     table = {name: spelled(name) for name in old_names()}
     if "--list" in sys.argv:
         for name in sorted(table):

@@ -21,10 +21,10 @@ use Rattle.tags.specs.Voltage.{max_offset, min_offset}
 use Rattle.display.specs.Decision.{supported_from, placed_at, allocatable, fits_buffer, accepted, decided, group_answer}
 use Rattle.display.specs.Operation.{with_setting, noted}
 use Rattle.requests.specs.Requests.{request_bytes, request_by, request_of, trail}
-use Rattle.responder.specs.Answers.{group_of, turn_of}
+use Rattle.responder.specs.Answers.{group_decision, turn_of}
 use Rattle.responder.specs.Reply.{served, reply}
 use Rattle.demands.specs.Examples.{Examples, comes_out, cases}
 
 pub examples : Examples
-unfolding comes_out cases reply served valid valid_facts valid_state valid_device valid_clock valid_voltage valid_buffer valid_display valid_memory valid_heap apart valid_block disjoint supported possible sides depths offsets pitch need bench opened good_size number_at trail walk_from step overruns tag_at request_of request_by request_bytes row_of table outside_tags group_tags group_of decided accepted allocatable fits_buffer placed_at one_bit ones_in supported_from nth_word noted with_setting turn_of outside_answer outside_after fact_answer place_of settled clock_after clock_value present group_answer answered max_offset min_offset
+unfolding comes_out cases reply served valid valid_facts valid_state valid_device valid_clock valid_voltage valid_buffer valid_display valid_memory valid_heap apart valid_block disjoint supported possible sides depths offsets pitch need bench opened good_size number_at trail walk_from step overruns tag_at request_of request_by request_bytes row_of table outside_tags group_tags group_decision decided accepted allocatable fits_buffer placed_at one_bit ones_in supported_from nth_word noted with_setting turn_of outside_answer outside_after fact_answer place_of settled clock_after clock_value present group_answer answered max_offset min_offset
 examples = tt

@@ -20,7 +20,7 @@ use Rattle.display.proofs.Laws.Kept.{decided_valid}
 use Rattle.display.specs.declared.decision.Decision.{Decision}
 use Rattle.display.specs.declared.operation.Operation.{Operation}
 use Rattle.requests.specs.Requests.{Request, passed, short, asks, trail}
-use Rattle.responder.specs.Answers.{group_by, group_of, turn_of, after}
+use Rattle.responder.specs.Answers.{group_by, group_decision, turn_of, after}
 use Rattle.responder.specs.Reply.{served, coded_if, opened_if, reply}
 use Rattle.responder.proofs.Laws.GroupAlone.{group_region, display_kept}
 use Rattle.responder.proofs.Laws.Turns.{turns_keep}
@@ -38,10 +38,10 @@ group_valid true d o v = decided_valid d o v
 group_valid false d o v = v
 
 served_valid : (b : Board) (m : List ℕ) (size : ℕ) → valid b ≡ true → valid (served b m size).answer.board ≡ true
-unfolding served group_of
+unfolding served group_decision
 served_valid b m size v =
     let tr = trail m size header in
-    let g = group_of b.display tr.ending tr.requests in
+    let g = group_decision b.display tr.ending tr.requests in
     display_valid (after g b tr.requests) g.display (turns_keep (turn_of g) (λ (x : Board). valid x ≡ true) (turn_valid g) b tr.requests v)
     (group_valid (eqb tr.ending.outcome done) b.display _ (valid_parts b v).display)
     (group_region b.display tr.ending tr.requests ∙ sym (ap (λ (d : Display). d.region) (display_kept g b tr.requests)))

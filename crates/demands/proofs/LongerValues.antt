@@ -22,7 +22,7 @@ use Rattle.board.specs.Record.{with_display}
 use Rattle.board.specs.declared.record.Board.{Board}
 use Rattle.display.specs.declared.decision.Decision.{Decision}
 use Rattle.requests.specs.Requests.{value_of, trail}
-use Rattle.responder.specs.Answers.{group_of, turn_of, after}
+use Rattle.responder.specs.Answers.{group_decision, turn_of, after}
 use Rattle.responder.specs.Reply.{served, reply}
 use Rattle.responder.specs.Turns.{Said, silent, says, Turns, turns}
 use Rattle.responder.specs.declared.respond.Served.{Served}
@@ -73,14 +73,14 @@ module _ (b : Board) (m : List ℕ) (d : (reply b m).answer.outcome ≡ done) (i
   pub read_at : ReadsAnswer b m i answer
   read_at = (reads b m (inl d)).answer_read i l answer e
 
-  tag_at : tag_of (reply b m).bytes i ≡ tag_after (tag_of m i) (says answer)
-  tag_at = rw (walked_is b m (inl d)) (after_at (walk_of m).tags (answers_of b m) i l ∙ ap (tag_after (tag_of m i)) e)
+  tag_there : tag_of (reply b m).bytes i ≡ tag_after (tag_of m i) (says answer)
+  tag_there = rw (walked_is b m (inl d)) (after_at (walk_of m).tags (answers_of b m) i l ∙ ap (tag_after (tag_of m i)) e)
 
   pub answer_stored : stored_answer (reply b m).bytes i ≡ take (stored_count m i answer) answer
   answer_stored =
       let n = stored_count m i answer in
       let left = (reply b m).bytes in
-      ap (λ (t : Tag). take (stored t) (value_of left t)) tag_at
+      ap (λ (t : Tag). take (stored t) (value_of left t)) tag_there
       ∙ ap (λ (k : ℕ). take k (value_of left (tag_of m i))) (sym (stored_is (tag_of m i) answer (answer_fits b m i e)))
       ∙ take-take n (tag_of m i).size (drop ((tag_of m i).at + tag_header) left) (omega arith)
       ∙ read_at.bytes n (omega arith)
@@ -123,7 +123,7 @@ module _ (b : Board) (m m' : List ℕ) (p : AlikeButLonger b m m') where
   asked_same = requests_same m m' (walk_of m).tags (walk_of m').tags (walk_of m).ending (walk_of m').ending a f.ending f'.ending
 
   decision_same : decision_of b m ≡ decision_of b m'
-  unfolding group_of
+  unfolding group_decision
   decision_same = rw (f.ending, f'.ending, asked_same)
 
   -- the turns of the two are the same

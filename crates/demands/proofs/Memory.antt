@@ -25,7 +25,7 @@ use Rattle.demands.proofs.Kept.{kept}
 use Rattle.demands.specs.Memory.{ShareNoByte, block_at, RoomAt, NoGap, LowestAddress, handle_for, RefusedFor, Handles}
 use Rattle.demands.specs.Memory.{BlocksApart}
 
--- ---- the test whether a block fits_at, and the plain facts
+-- ---- the test whether a block fits, and the plain facts
 module _ (b : Board) (size alignment a : ℕ) where
   clear_is : (c : Block) → clear_of (span a size) c ≡ true → c.taken ≡ true → ShareNoByte (span a size) (bytes_of c)
   unfolding clear_of

@@ -31,7 +31,7 @@ use Rattle.tags.specs.Outside.{outside_answer, outside_after}
 use Rattle.tags.specs.Place.{place_of}
 use Rattle.display.specs.Decision.{decided}
 use Rattle.requests.specs.Requests.{request_bytes, request_by, request_of, trail}
-use Rattle.responder.specs.Answers.{group_of, turn_of}
+use Rattle.responder.specs.Answers.{group_decision, turn_of}
 use Rattle.responder.specs.Reply.{served, reply}
 use Rattle.responder.specs.Turns.{says}
 use Rattle.demands.proofs.BytesHeld.{bytes_held}
@@ -65,7 +65,7 @@ unfolding reply served opened good_size number_at trail walk_from step overruns 
 blocks_done = rw bench_valid
 
 blocks_answers : answers_of bench two_blocks ≡ says (le 4 1) ∷ says (le 4 2) ∷ says (le 4 0x3C800000) ∷ []
-unfolding bench number_at trail walk_from step overruns tag_at request_of request_by request_bytes row_of table outside_tags group_tags group_of decided nth_word turn_of outside_answer outside_after one_bit ones_in aligned lowest inside apart clear_of free_handle fits_at lowest_address grants allocation place_of handle_after handle_value
+unfolding bench number_at trail walk_from step overruns tag_at request_of request_by request_bytes row_of table outside_tags group_tags group_decision decided nth_word turn_of outside_answer outside_after one_bit ones_in aligned lowest inside apart clear_of free_handle fits_at lowest_address grants allocation place_of handle_after handle_value
 blocks_answers = refl
 
 blocks_trail : (trail_of two_blocks).tags ≡ request_tag 8 0x0003000c 12 ∷ request_tag 32 0x0003000c 12 ∷ request_tag 56 0x0003000d 8 ∷ []
@@ -75,12 +75,12 @@ blocks_trail = refl
 -- `Kept` and `BlocksApart`: the record afterwards has these blocks, is valid, and they share no byte
 pub blocks_first : block_at (reply bench two_blocks).answer.board 0
     ≡ record { taken = true; locked = true; base = 0x3C800000; size = 4096; alignment = 4096; flags = 7 }
-unfolding reply served opened good_size bench number_at trail walk_from step overruns tag_at request_of request_by request_bytes row_of table outside_tags group_tags group_of decided nth_word turn_of outside_answer outside_after one_bit ones_in aligned lowest inside apart clear_of free_handle fits_at lowest_address grants allocation place_of handle_after handle_value
+unfolding reply served opened good_size bench number_at trail walk_from step overruns tag_at request_of request_by request_bytes row_of table outside_tags group_tags group_decision decided nth_word turn_of outside_answer outside_after one_bit ones_in aligned lowest inside apart clear_of free_handle fits_at lowest_address grants allocation place_of handle_after handle_value
 blocks_first = rw bench_valid
 
 pub blocks_second : block_at (reply bench two_blocks).answer.board 1
     ≡ record { taken = true; locked = false; base = 0x3C801000; size = 16; alignment = 16; flags = 0 }
-unfolding reply served opened good_size bench number_at trail walk_from step overruns tag_at request_of request_by request_bytes row_of table outside_tags group_tags group_of decided nth_word turn_of outside_answer outside_after one_bit ones_in aligned lowest inside apart clear_of free_handle fits_at lowest_address grants allocation place_of handle_after handle_value
+unfolding reply served opened good_size bench number_at trail walk_from step overruns tag_at request_of request_by request_bytes row_of table outside_tags group_tags group_decision decided nth_word turn_of outside_answer outside_after one_bit ones_in aligned lowest inside apart clear_of free_handle fits_at lowest_address grants allocation place_of handle_after handle_value
 blocks_second = rw bench_valid
 
 pub two_valid : valid (reply bench two_blocks).answer.board ≡ true
@@ -181,7 +181,7 @@ pub odd_granted : handle_for bench 16 24 0 ≡ 0
 unfolding one_bit ones_in
 odd_granted = (handles bench bench_valid 16 24 0).zero_when.1 (inr (inl refl))
 
--- ---- `BytesHeld`, over a four_messages with a fault and a refusal in it
+-- ---- `BytesHeld`, over four messages with a fault and a refusal in it
 -- allocate 64 bytes; then a rate of no request, which is a fault, and an allocate behind it
 abbrev fault_behind : List ℕ
 fault_behind = word_bytes (72 ∷ 0 ∷ 0x0003000c ∷ 12 ∷ 0 ∷ 64 ∷ 64 ∷ 0 ∷ 0x00030002 ∷ 0 ∷ 0 ∷ 0x0003000c ∷ 12 ∷ 0 ∷ 32 ∷ 32 ∷ 0 ∷ 0 ∷ [])
@@ -211,7 +211,7 @@ run_counted = bytes_held bench bench_without four_messages
 
 -- 4,096 + 16 + 64 bytes were granted, 4,096 released, and 80 are held
 pub run_counts : (granted_so_far bench four_messages ≡ 4176) × (released_so_far bench four_messages ≡ 4096)
-unfolding reply served opened good_size valid valid_facts valid_state valid_device valid_clock valid_voltage valid_buffer valid_display valid_memory valid_heap valid_block disjoint supported possible sides depths offsets pitch need bench number_at trail walk_from step overruns tag_at request_of request_by request_bytes row_of table outside_tags group_tags group_of decided nth_word turn_of outside_answer outside_after one_bit ones_in aligned lowest inside apart clear_of free_handle fits_at lowest_address grants allocation place_of handle_after handle_value
+unfolding reply served opened good_size valid valid_facts valid_state valid_device valid_clock valid_voltage valid_buffer valid_display valid_memory valid_heap valid_block disjoint supported possible sides depths offsets pitch need bench number_at trail walk_from step overruns tag_at request_of request_by request_bytes row_of table outside_tags group_tags group_decision decided nth_word turn_of outside_answer outside_after one_bit ones_in aligned lowest inside apart clear_of free_handle fits_at lowest_address grants allocation place_of handle_after handle_value
 run_counts = (refl, refl)
 
 -- ---- a record with two blocks that share the byte at 0x3C800010

@@ -29,7 +29,7 @@ use Rattle.answers.specs.Answer.{two_words}
 use Rattle.display.specs.Decision.{supported_from, placed_at, allocatable, fits_buffer, accepted, decided, group_answer}
 use Rattle.display.specs.Operation.{with_setting, noted}
 use Rattle.requests.specs.Requests.{request_bytes, request_by, request_of, trail}
-use Rattle.responder.specs.Answers.{group_of, turn_of}
+use Rattle.responder.specs.Answers.{group_decision, turn_of}
 use Rattle.responder.specs.Reply.{served, reply}
 use Rattle.responder.specs.Turns.{says}
 use Rattle.demands.proofs.Changes.{changes, refusals}
@@ -54,7 +54,7 @@ unfolding reply served opened good_size number_at trail walk_from step overruns 
 panned_done = rw bench_valid
 
 panned_answers : answers_of bench panned_down ≡ says (two_words 800 960) ∷ says (two_words 0 480) ∷ []
-unfolding bench number_at trail walk_from step overruns tag_at request_of request_by request_bytes row_of table outside_tags group_tags group_of decided accepted allocatable fits_buffer placed_at one_bit ones_in supported_from nth_word noted with_setting turn_of group_answer supported possible sides depths offsets pitch need
+unfolding bench number_at trail walk_from step overruns tag_at request_of request_by request_bytes row_of table outside_tags group_tags group_decision decided accepted allocatable fits_buffer placed_at one_bit ones_in supported_from nth_word noted with_setting turn_of group_answer supported possible sides depths offsets pitch need
 panned_answers = refl
 
 panned_trail : (trail_of panned_down).tags ≡ request_tag 8 0x00048004 8 ∷ request_tag 28 0x00048009 12 ∷ []
@@ -63,7 +63,7 @@ panned_trail = refl
 
 -- `Kept` and `PanningKept`: the record afterwards has this offset, and is valid
 pub panned_offset : (reply bench panned_down).answer.board.display.settings.offset ≡ record { x = 0; y = 480 }
-unfolding reply served opened good_size bench number_at trail walk_from step overruns tag_at request_of request_by request_bytes row_of table outside_tags group_tags group_of decided accepted allocatable fits_buffer placed_at one_bit ones_in supported_from nth_word noted with_setting turn_of group_answer supported possible sides depths offsets pitch need
+unfolding reply served opened good_size bench number_at trail walk_from step overruns tag_at request_of request_by request_bytes row_of table outside_tags group_tags group_decision decided accepted allocatable fits_buffer placed_at one_bit ones_in supported_from nth_word noted with_setting turn_of group_answer supported possible sides depths offsets pitch need
 panned_offset = rw bench_valid
 
 pub panned_valid : valid (reply bench panned_down).answer.board ≡ true

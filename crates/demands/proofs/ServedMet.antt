@@ -34,7 +34,7 @@ use Rattle.tags.specs.Outside.{outside_answer, outside_after}
 use Rattle.display.specs.Decision.{supported_from, placed_at, allocatable, fits_buffer, accepted, decided, group_answer}
 use Rattle.display.specs.Operation.{with_setting, noted}
 use Rattle.requests.specs.Requests.{passed, asks, request_bytes, request_by, request_of, trail, WalkOutcome}
-use Rattle.responder.specs.Answers.{group_of, turn_of}
+use Rattle.responder.specs.Answers.{group_decision, turn_of}
 use Rattle.responder.specs.Reply.{served, reply}
 use Rattle.responder.specs.Turns.{Said, silent, says}
 use Rattle.demands.proofs.AnswerLengths.{answer_lengths}
@@ -68,7 +68,7 @@ mac_bytes = 0xB8 ∷ 0x27 ∷ 0xEB ∷ 0x4D ∷ 0x91 ∷ 0xF6 ∷ []
 
 several_answers : answers_of bench several_tags
     ≡ says mac_bytes ∷ silent ∷ says (16 ∷ 0 ∷ 0 ∷ 0 ∷ []) ∷ says (16 ∷ 0 ∷ 0 ∷ 0 ∷ []) ∷ []
-unfolding bench number_at trail walk_from step overruns tag_at request_of request_by request_bytes row_of table outside_tags group_tags group_of decided accepted allocatable fits_buffer placed_at one_bit ones_in supported_from nth_word noted with_setting turn_of outside_answer outside_after fact_answer group_answer supported possible sides depths offsets pitch need
+unfolding bench number_at trail walk_from step overruns tag_at request_of request_by request_bytes row_of table outside_tags group_tags group_decision decided accepted allocatable fits_buffer placed_at one_bit ones_in supported_from nth_word noted with_setting turn_of outside_answer outside_after fact_answer group_answer supported possible sides depths offsets pitch need
 several_answers = refl
 
 pub mac_said : said_at bench several_tags 0 ≡ says mac_bytes
@@ -175,7 +175,7 @@ release_answered =
     })
 
 pub release_left : (said_at standing_buffer release_refused 0 ≡ says []) × ((reply standing_buffer release_refused).answer.board ≡ standing_buffer)
-unfolding reply served opened good_size bench number_at trail walk_from step overruns tag_at request_of request_by request_bytes row_of table outside_tags group_tags group_of decided accepted allocatable fits_buffer placed_at one_bit ones_in supported_from nth_word noted with_setting turn_of group_answer supported possible sides depths offsets pitch need
+unfolding reply served opened good_size bench number_at trail walk_from step overruns tag_at request_of request_by request_bytes row_of table outside_tags group_tags group_decision decided accepted allocatable fits_buffer placed_at one_bit ones_in supported_from nth_word noted with_setting turn_of group_answer supported possible sides depths offsets pitch need
 release_left = (refl, rw standing_valid)
 
 -- ---- test depth, set depth: mixed, and neither is answered

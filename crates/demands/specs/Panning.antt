@@ -17,7 +17,7 @@ pub record ShowsPicture (s : Settings) : Type 0 where
 
 -- Of supported settings, whatever the region's size.
 abbrev pub Panning : Type 0
-Panning = (regionSize : ℕ) (s : Settings) → supported regionSize s ≡ true → ShowsPicture s
+Panning = (region_size : ℕ) (s : Settings) → supported region_size s ≡ true → ShowsPicture s
 
 -- Of the settings that any call leaves on a valid record.
 abbrev pub PanningKept : Type 0

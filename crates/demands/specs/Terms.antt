@@ -8,7 +8,7 @@ use Rattle.message.specs.declared.walk.Tag.{Tag}
 use Rattle.board.specs.declared.record.Board.{Board}
 use Rattle.display.specs.declared.decision.Decision.{Decision}
 use Rattle.requests.specs.Requests.{Trail, trail, WalkOutcome}
-use Rattle.responder.specs.Answers.{group_of, answers}
+use Rattle.responder.specs.Answers.{group_decision, answers}
 use Rattle.responder.specs.Reply.{reply}
 use Rattle.responder.specs.Turns.{Said, silent, says}
 
@@ -32,7 +32,7 @@ trail_of m = trail m (word m 0) header
 
 -- what is decided of the frame buffer group on the record b, and what each of these tags says
 abbrev pub decision_of : Board → List ℕ → Decision
-decision_of b m = group_of b.display (trail_of m).ending (trail_of m).requests
+decision_of b m = group_decision b.display (trail_of m).ending (trail_of m).requests
 
 abbrev pub answers_of : Board → List ℕ → List Said
 answers_of b m = answers (decision_of b m) b (trail_of m).requests

@@ -64,13 +64,13 @@ left_alone d = record {
 }
 
 -- tests only: each answers the proposal where it is supported, and the current value where not; nothing changes
-abbrev pub tested : (isSupported : Bool) → Display → Operation → Decision
+abbrev pub tested : (is_supported : Bool) → Display → Operation → Decision
 tested true d o = showing o.proposal d
 tested false d o = showing d.settings d
 
 -- sets and gets: accepted, the settings stand, and every allocate answers the same base and size; refused, nothing
 -- changes and allocate answers 0, 0
-abbrev pub carried_out : (isAccepted : Bool) → Display → Operation → Decision
+abbrev pub carried_out : (is_accepted : Bool) → Display → Operation → Decision
 carried_out true d o = record {
   answered = true;
   accepted = true;

@@ -30,8 +30,8 @@ abbrev pub group_by : (faultless : Bool) → Display → Operation → Decision
 group_by true d o = decided d o
 group_by false d o = left_alone d
 
-unfoldable pub group_of : Display → Ending → List Request → Decision
-group_of d e rs = group_by (eqb e.outcome done) d (operation (unasked d.settings) rs)
+unfoldable pub group_decision : Display → Ending → List Request → Decision
+group_decision d e rs = group_by (eqb e.outcome done) d (operation (unasked d.settings) rs)
 
 -- ---- the answers: the state is the record
 -- a tag outside the group answers from the record that the last one left, and leaves another; a group tag answers from

@@ -13,7 +13,7 @@ use Rattle.board.specs.declared.record.Board.{Board}
 use Rattle.answers.specs.Writing.{answered}
 use Rattle.display.specs.declared.decision.Decision.{Decision}
 use Rattle.requests.specs.Requests.{Request, Trail, trail}
-use Rattle.responder.specs.Answers.{group_of, turn_of, after}
+use Rattle.responder.specs.Answers.{group_decision, turn_of, after}
 use Rattle.responder.specs.Turns.{Said, silent, says, Turn, turns}
 use Rattle.responder.specs.declared.respond.Served.{Served}
 
@@ -55,10 +55,10 @@ served_by tr g b m =
     })
 
 unfoldable pub served : Board → List ℕ → (size : ℕ) → Call Served
-served b m size = let tr = trail m size header in served_by tr (group_of b.display tr.ending tr.requests) b m
+served b m size = let tr = trail m size header in served_by tr (group_decision b.display tr.ending tr.requests) b m
 
 -- the refusals in order: 14, 1, 2, 3
-abbrev pub coded_if : (isRequest : Bool) → Board → List ℕ → (size : ℕ) → Call Served
+abbrev pub coded_if : (is_request : Bool) → Board → List ℕ → (size : ℕ) → Call Served
 coded_if true b m size = served b m size
 coded_if false b m size = refused not_request b m
 

@@ -17,8 +17,8 @@ trail_served g b o tr m =
     leaves (trail_written (turn_of g) b tr m)
     (record { ending = tr.ending; operation = operation o tr.requests; board = after g b tr.requests })
 
-abbrev pub tags_served : Decision → Board → List ℕ → (size : ℕ) → Call TagsServed
-tags_served g b m size = trail_served g b (unasked b.display.settings) (trail m size header) m
+abbrev pub walk_served : Decision → Board → List ℕ → (size : ℕ) → Call TagsServed
+walk_served g b m size = trail_served g b (unasked b.display.settings) (trail m size header) m
 
 -- the message after the second walk, which is not taken where the group is left alone
 abbrev pub group_served : Decision → Board → List ℕ → (size : ℕ) → List ℕ

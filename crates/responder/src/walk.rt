@@ -6,7 +6,7 @@ ghost use Rattle.message.specs.Outcomes.{short_request};
 ghost use Rattle.message.specs.Sizes.{header};
 ghost use Rattle.message.specs.Helpers.{Walking};
 ghost use Rattle.board.specs.Memory.{valid_heap};
-ghost use Rattle.responder.specs.Serve.{tags_served};
+ghost use Rattle.responder.specs.Serve.{walk_served};
 
 use answers::writing::{put_pair, put_word};
 use board::record::Board;
@@ -62,7 +62,7 @@ fn short_at(p: usize) -> Ending
 // says so. No entry point: the message has been opened, and the heap is valid.
 pub fn serve_tags(board: Board, msg: &mut [u8], size: usize, group: Decision) -> TagsServed
     requires { (Walking msg.old size header) × (valid_heap board.heap ≡ true) }
-    ensures { leaves msg.new result ≡ tags_served group board msg.old size }
+    ensures { leaves msg.new result ≡ walk_served group board msg.old size }
 {
     let mut b = board;
     let display = b.display;

@@ -40,9 +40,9 @@ alike_by_index m m' (t ∷ ts) [] ids words requests = true≢false cc
 alike_by_index m m' (t ∷ ts) (t' ∷ ts') ids words requests =
     let id : t.id ≡ t'.id = cc in
     let word : t.word ≡ t'.word = cc in
-    let later-ids : map (λ (u : Tag). u.id) ts ≡ map (λ (u : Tag). u.id) ts' = cc in
-    let later-words : map (λ (u : Tag). u.word) ts ≡ map (λ (u : Tag). u.word) ts' = cc in
-    (id, word, requests 0 (omega arith), alike_by_index m m' ts ts' later-ids later-words (λ i l. requests (suc i) (omega arith)))
+    let later_ids : map (λ (u : Tag). u.id) ts ≡ map (λ (u : Tag). u.id) ts' = cc in
+    let later_words : map (λ (u : Tag). u.word) ts ≡ map (λ (u : Tag). u.word) ts' = cc in
+    (id, word, requests 0 (omega arith), alike_by_index m m' ts ts' later_ids later_words (λ i l. requests (suc i) (omega arith)))
 
 -- ---- one pair
 request_pair : (m m' : List ℕ) (t t' : Tag) → t.id ≡ t'.id → t.word ≡ t'.word → SameRequest m m' t t' → (request_of m t ≡ short → ⊥)

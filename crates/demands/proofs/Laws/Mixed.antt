@@ -17,7 +17,7 @@ use Rattle.display.specs.Decision.{supported_from, accepted, tested, carried_out
 use Rattle.display.specs.Operation.{unasked, noted}
 use Rattle.display.specs.declared.operation.Operation.{Operation}
 use Rattle.requests.specs.Requests.{Request, passed, short, asks}
-use Rattle.responder.specs.Answers.{note_by, operation, group_by, group_of}
+use Rattle.responder.specs.Answers.{note_by, operation, group_by, group_decision}
 use Rattle.demands.specs.AnsweredWhen.{test_of, AsksGroup}
 
 -- whether an operation has tests, and whether it has other tags
@@ -120,16 +120,16 @@ module _ (d : Display) (e : Ending) (rs : List Request) where
   o = operation (unasked d.settings) rs
 
   -- a group that is answered has no fault before it, and does not mix
-  pub answered_faultless : (group_of d e rs).answered ≡ true → e.outcome ≡ done
-  unfolding group_of
+  pub answered_faultless : (group_decision d e rs).answered ≡ true → e.outcome ≡ done
+  unfolding group_decision
   answered_faultless a = go (eqb e.outcome done) refl a
     where
       go : (c : Bool) → eqb e.outcome done ≡ c → (group_by c d o).answered ≡ true → e.outcome ≡ done
       go true q a = eqb-true _ _ q
       go false q a = absurd (true≢false cc)
 
-  pub answered_unmixed : (group_of d e rs).answered ≡ true → (i j : ℕ) → AsksGroup true (get_or rs i passed) → AsksGroup false (get_or rs j passed) → ⊥
-  unfolding group_of decided
+  pub answered_unmixed : (group_decision d e rs).answered ≡ true → (i j : ℕ) → AsksGroup true (get_or rs i passed) → AsksGroup false (get_or rs j passed) → ⊥
+  unfolding group_decision decided
   answered_unmixed a i j p q =
       decided_apart o.tests o.others d o (rw (eq-eqb e.outcome done (answered_faultless a)) at a)
       (has_one true rs (unasked d.settings) i p) (has_one false rs (unasked d.settings) j q)
@@ -149,8 +149,8 @@ module _ (d : Display) (e : Ending) (rs : List Request) where
   -- one that has no fault, does not mix and is asked something is answered
   pub unmixed_answered : e.outcome ≡ done
       → (((i : ℕ) × AsksGroup true (get_or rs i passed)) → ((j : ℕ) × AsksGroup false (get_or rs j passed)) → ⊥)
-      → (test : Bool) (i : ℕ) → AsksGroup test (get_or rs i passed) → (group_of d e rs).answered ≡ true
-  unfolding group_of decided
+      → (test : Bool) (i : ℕ) → AsksGroup test (get_or rs i passed) → (group_decision d e rs).answered ≡ true
+  unfolding group_decision decided
   unmixed_answered f n test i a =
       rw (eq-eqb e.outcome done f)
       (decided_some o.tests o.others d o (λ p q. n (witness true p) (witness false q)) (one test (has_one test rs (unasked d.settings) i a)))
@@ -160,8 +160,8 @@ module _ (d : Display) (e : Ending) (rs : List Request) where
       one false x = inr x
 
   -- a group with a fault before it, one that mixes, and one that is asked for nothing but tests leave the display
-  pub display_same : KeepsDisplay e rs → (group_of d e rs).display ≡ d
-  unfolding group_of decided
+  pub display_same : KeepsDisplay e rs → (group_decision d e rs).display ≡ d
+  unfolding group_decision decided
   display_same h = go (eqb e.outcome done) refl
     where
       tested_same : (c : Bool) → (tested c d o).display ≡ d

@@ -5,7 +5,7 @@ use Prim.Native.Nat.{ℕ, zero, suc, ◌+◌, ◌-◌, ◌^◌, ◌≤◌, ◌<�
 use native.Mathlib.Omega.{arith}
 use lib.ListN.{length, take, drop, length-append, length-replicate}
 use lib.Seq.{drop-drop, take-append-add}
-use Rattle.words.proofs.Laws.Agree.{drop_later, part_before, number_part, part_of}
+use Rattle.words.proofs.Laws.Agree.{drop_later, part_before, number_part, part_of_longer}
 use Rattle.words.proofs.Laws.Numbers.{unle_le}
 use Rattle.words.specs.Numbers.{unle, number_at, word}
 use Rattle.words.specs.Put.{zeros}
@@ -64,7 +64,7 @@ module _ (m : List ℕ) (p : ℕ) (a : Add) (f : Fine a) (h : take (length (add_
 
   id_is : word m p ≡ a.id
   unfolding number_at tag_bytes
-  id_is = let n = length_tag a f in ap unle (part_of (length (add_bytes a)) 0 4 (drop p m) (omega arith) ∙ ap (take 4) h) ∙ unle_le 4 a.id f.id_word
+  id_is = let n = length_tag a f in ap unle (part_of_longer (length (add_bytes a)) 0 4 (drop p m) (omega arith) ∙ ap (take 4) h) ∙ unle_le 4 a.id f.id_word
 
   size_is : word m (p + size_place) ≡ a.size
   unfolding number_at tag_bytes
@@ -90,7 +90,7 @@ module _ (m : List ℕ) (p : ℕ) (a : Add) (f : Fine a) (h : take (length (add_
       let n = length_tag a f in
       let s : length a.request + (a.size - length a.request) ≡ a.size = omega arith in
       ap (take a.size) (sym (drop-drop tag_header p m))
-      ∙ part_of (length (add_bytes a)) tag_header a.size (drop p m) (omega arith)
+      ∙ part_of_longer (length (add_bytes a)) tag_header a.size (drop p m) (omega arith)
       ∙ ap (λ (l : List ℕ). take a.size (drop tag_header l)) h
       ∙ ap (λ (x : ℕ). take x (a.request ++ zeros (round_up 4 a.size - length a.request))) (sym s)
       ∙ take-append-add a.request (zeros (round_up 4 a.size - length a.request)) (a.size - length a.request)

@@ -20,7 +20,7 @@ use Rattle.display.specs.declared.operation.Operation.{Operation}
 use Rattle.requests.specs.Requests.{Request, passed, short, asks, trail}
 use Rattle.responder.proofs.Laws.Saids.{after_same}
 use Rattle.responder.proofs.Laws.Turns.{turns_beside}
-use Rattle.responder.specs.Answers.{operation, group_by, group_of, turn_of, answers, after}
+use Rattle.responder.specs.Answers.{operation, group_by, group_decision, turn_of, answers, after}
 use Rattle.responder.specs.Reply.{served}
 use Rattle.responder.specs.Turns.{says, Turns, turns}
 
@@ -29,15 +29,15 @@ use Rattle.responder.specs.Turns.{says, Turns, turns}
 pub group_alone : (b : Board) (m : List ℕ) (size : ℕ)
     → let tr = trail m size header in
     (served b m size).answer.board
-    ≡ with_display (after (left_alone b.display) b tr.requests) (group_of b.display tr.ending tr.requests).display
+    ≡ with_display (after (left_alone b.display) b tr.requests) (group_decision b.display tr.ending tr.requests).display
 unfolding served
 group_alone b m size =
     let tr = trail m size header in
-    let g = group_of b.display tr.ending tr.requests in
+    let g = group_decision b.display tr.ending tr.requests in
     ap (λ (x : Board). with_display x g.display) (after_same g (left_alone b.display) b tr.requests)
 
-pub group_region : (d : Display) (e : Ending) (rs : List Request) → (group_of d e rs).display.region ≡ d.region
-unfolding group_of
+pub group_region : (d : Display) (e : Ending) (rs : List Request) → (group_decision d e rs).display.region ≡ d.region
+unfolding group_decision
 group_region d e rs = go (eqb e.outcome done) (operation (unasked d.settings) rs)
   where
     go : (faultless : Bool) (o : Operation) → (group_by faultless d o).display.region ≡ d.region

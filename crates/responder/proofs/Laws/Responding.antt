@@ -33,9 +33,9 @@ use Rattle.responder.proofs.Laws.Serving.{turn_heap}
 use Rattle.responder.proofs.Laws.Turns.{turns_keep}
 use Rattle.responder.proofs.Laws.Twice.{twice}
 use Rattle.responder.proofs.Laws.Written.{writes_length}
-use Rattle.responder.specs.Answers.{group_by, group_of, turn_of, answers, after}
+use Rattle.responder.specs.Answers.{group_by, group_decision, turn_of, answers, after}
 use Rattle.responder.specs.Reply.{write_all, trail_written, code_of, served, opened_if, reply}
-use Rattle.responder.specs.Serve.{tags_served, group_served}
+use Rattle.responder.specs.Serve.{walk_served, group_served}
 use Rattle.responder.specs.Turns.{Said}
 use Rattle.responder.specs.declared.respond.Served.{Served}
 use Rattle.responder.specs.declared.walk.TagsServed.{TagsServed}
@@ -49,7 +49,7 @@ module _ (outcome : ℕ) (d : Display) (o : Operation) {r : Decision} where
   group_left n e = e ∙ ap (λ (x : Bool). group_by x d o) (sym (ne_eqb outcome done n))
 
 module _ (g : Decision) (b : Board) (m : List ℕ) (size : ℕ) where
-  pub group_walked : g.answered ≡ true → {m' : List ℕ} {r : TagsServed} → leaves m' r ≡ tags_served g b m size → m' ≡ group_served g b m size
+  pub group_walked : g.answered ≡ true → {m' : List ℕ} {r : TagsServed} → leaves m' r ≡ walk_served g b m size → m' ≡ group_served g b m size
   group_walked y e =
       ap (λ (x : Call TagsServed). x.bytes) e ∙ ap (λ (x : Bool). cond x (trail_written (turn_of g) b (trail m size header) m) m) (sym y)
 
@@ -60,7 +60,7 @@ module _ (g : Decision) (b : Board) (m : List ℕ) (size : ℕ) where
 pub valid_heap_of : (b : Board) → valid b ≡ true → valid_heap b.heap ≡ true
 valid_heap_of b v = (memory_parts b.display.region b.heap b.blocks (valid_parts b v).memory).placed
 
-pub walked_heap : (b : Board) (m : List ℕ) (size : ℕ) (g : Decision) {m₁ : List ℕ} {r : TagsServed} → leaves m₁ r ≡ tags_served g b m size → valid b ≡ true
+pub walked_heap : (b : Board) (m : List ℕ) (size : ℕ) (g : Decision) {m₁ : List ℕ} {r : TagsServed} → leaves m₁ r ≡ walk_served g b m size → valid b ≡ true
     → valid_heap r.board.heap ≡ true
 walked_heap b m size g e v =
     ap (λ (x : Call TagsServed). valid_heap x.answer.board.heap) e
@@ -73,7 +73,7 @@ module _ (b : Board) (m : List ℕ) (size : ℕ) (w : Walking m size header) whe
   tr = trail m size header
 
   -- a walk keeps the length, so that the message may be walked again
-  module _ (g : Decision) {m₁ : List ℕ} {r : TagsServed} (e : leaves m₁ r ≡ tags_served g b m size) where
+  module _ (g : Decision) {m₁ : List ℕ} {r : TagsServed} (e : leaves m₁ r ≡ walk_served g b m size) where
     walked_length : length m₁ ≡ length m
     walked_length = ap (λ (x : Call TagsServed). length x.bytes) e ∙ writes_length tr.tags (answers g b tr.requests) m
 
@@ -84,7 +84,7 @@ module _ (b : Board) (m : List ℕ) (size : ℕ) (w : Walking m size header) whe
 
   -- the first walk with the group left alone, the group decided and answered, the code word
   module _ {g₀ : Decision} (e₀ : g₀ ≡ left_alone b.display) {m₁ : List ℕ} {r : TagsServed}
-      (e₁ : leaves m₁ r ≡ tags_served g₀ b m size)
+      (e₁ : leaves m₁ r ≡ walk_served g₀ b m size)
       {g : Decision} (eg : g ≡ group_by (eqb r.ending.outcome done) b.display r.operation) {m₂ : List ℕ} (e₂ : m₂ ≡ group_served g r.board
       m₁ size) where
     quiet : g₀.answered ≡ false
@@ -96,8 +96,8 @@ module _ (b : Board) (m : List ℕ) (size : ℕ) (w : Walking m size header) whe
     board_is : r.board ≡ after g b tr.requests
     board_is = ap (λ (x : Call TagsServed). x.answer.board) e₁ ∙ after_same g₀ g b tr.requests
 
-    group_is : g ≡ group_of b.display tr.ending tr.requests
-    unfolding group_of
+    group_is : g ≡ group_decision b.display tr.ending tr.requests
+    unfolding group_decision
     group_is =
         eg ∙ ap (λ (x : Ending). group_by (eqb x.outcome done) b.display r.operation) ending_is
         ∙ ap (λ (x : Operation). group_by (eqb tr.ending.outcome done) b.display x) (ap (λ (x : Call TagsServed). x.answer.operation) e₁)

@@ -38,7 +38,7 @@ use Rattle.requests.specs.declared.ask.Ask.{Ask}
 use Rattle.responder.proofs.Laws.Written.{written_length, written_behind}
 use Rattle.responder.specs.Answers.{note_by, turn_of}
 use Rattle.responder.specs.Reply.{written}
-use Rattle.responder.specs.Serve.{trail_served, tags_served}
+use Rattle.responder.specs.Serve.{trail_served, walk_served}
 use Rattle.responder.specs.Turns.{Said, silent, says}
 use Rattle.responder.specs.declared.walk.TagsServed.{TagsServed}
 
@@ -79,7 +79,7 @@ pub record Ahead (g : Decision) (m₀ : List ℕ) (size : ℕ) (b₀ : Board) (m
   pub same : length m ≡ length m₀
   pub rest : drop p m ≡ drop p m₀
   pub heap_same : b.heap ≡ b₀.heap
-  pub serves : trail_served g b o (trail m₀ size p) m ≡ tags_served g b₀ m₀ size
+  pub serves : trail_served g b o (trail m₀ size p) m ≡ walk_served g b₀ m₀ size
 
 pub serve_start : (g : Decision) (m₀ : List ℕ) (size : ℕ) (b₀ : Board) {o : Operation} → Walking m₀ size header
     → o ≡ unasked b₀.display.settings → Ahead g m₀ size b₀ m₀ b₀ o header
@@ -93,11 +93,11 @@ module _ (g : Decision) (m₀ : List ℕ) (size : ℕ) (b₀ : Board) (m : List 
 
   -- where the trail ends, all is written
   ends_here : {e : Ending} → trail m₀ size p ≡ ends e → {r : TagsServed} → r ≡ record { ending = e; operation = o; board = b }
-      → leaves m r ≡ tags_served g b₀ m₀ size
+      → leaves m r ≡ walk_served g b₀ m₀ size
   ends_here e er = ap (leaves m) er ∙ ap (λ (x : Trail). trail_served g b o x m) (sym e) ∙ h.serves
 
   pub serve_stop : OneOf (1 ∷ 2 ∷ []) (tag_of Step.the_type st) → {e : Ending} → e ≡ ending_of st → {r : TagsServed}
-      → r ≡ record { ending = e; operation = o; board = b } → leaves m r ≡ tags_served g b₀ m₀ size
+      → r ≡ record { ending = e; operation = o; board = b } → leaves m r ≡ walk_served g b₀ m₀ size
   serve_stop k ee = ends_here (trail_stop m₀ size p st k es₀ ∙ ap ends (sym ee))
 
   module _ {t : Tag} {next : ℕ} (et : st ≡ Step.Tag t next) where
@@ -126,7 +126,7 @@ module _ (g : Decision) (m₀ : List ℕ) (size : ℕ) (b₀ : Board) (m : List 
       request₀ = let f = here in request_same m m₀ t (subst (λ (x : ℕ). drop x m ≡ drop x m₀) (sym f.at) h.rest)
 
       pub serve_short : q ≡ Ask.Short → {e : Ending} → e ≡ record { outcome = short_request; place = p } → {r : TagsServed}
-          → r ≡ record { ending = e; operation = o; board = b } → leaves m r ≡ tags_served g b₀ m₀ size
+          → r ≡ record { ending = e; operation = o; board = b } → leaves m r ≡ walk_served g b₀ m₀ size
       serve_short e ee =
           let f = here in
           let r : request_of m₀ t ≡ short = sym request₀ ∙ short_asked (request_of m t) (sym e ∙ asked) in

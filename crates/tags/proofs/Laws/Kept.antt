@@ -44,7 +44,7 @@ module _ {A : Type 0} (p : A → Bool) (none : A) (n : p none ≡ true) where
 
 -- ---- GPU memory
 module _ (region heap : Span) (blocks : List Block) (v : valid_memory region heap blocks ≡ true) where
-  -- a new block, where it fits_at
+  -- a new block, where it fits
   new_valid : (size alignment flags a : ℕ) → 0 < size → one_bit alignment ≡ true → Fits heap blocks size alignment a
       → (i : ℕ) → valid_memory region heap (set blocks i (new_block a size alignment flags)) ≡ true
   unfolding valid_block inside disjoint

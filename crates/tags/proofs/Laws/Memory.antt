@@ -74,7 +74,7 @@ free_most blocks = go (ℕ_discrete (free_handle blocks) 0)
     go (yes e) = omega arith
     go (no e) = let h = (free_is blocks).most (omega arith) in omega arith
 
--- ---- an address where a block fits_at, as plain facts
+-- ---- an address where a block fits, as plain facts
 pub record Fits (heap : Span) (blocks : List Block) (size alignment a : ℕ) : Type 0 where
   pub even : aligned alignment a ≡ true
   pub first : heap.base ≤ a
@@ -227,7 +227,7 @@ module _ (heap : Span) (blocks : List Block) (size alignment flags : ℕ) where
   unfolding grants allocation
   is_granted p o h a = rw (lt-ltb 0 size p, o, lt-ltb 0 (free_handle blocks) h, lt-ltb 0 (lowest_address heap blocks size alignment) a)
 
--- ---- the search, from a₀ on: no address below a fits_at
+-- ---- the search, from a₀ on: no address below a fits
 pub record Searching (blocks : List Block) (last size alignment a₀ a : ℕ) : Type 0 where
   pub even : aligned alignment a ≡ true
   pub most : a < 0x3_0000_0000
