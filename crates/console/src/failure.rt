@@ -24,8 +24,8 @@ fn say(rt: &impl Eprint, what: &[u8], reason: &str) -> io::Result<()> {
     }
 }
 
-// Writes a line to standard error: what failed, as the caller names it, a colon and the reason. Bytes
-// of a name that are not UTF-8 are escaped. A line that cannot be written is dropped.
+// Writes a line to standard error: what failed, as the caller names it, a colon and the reason. A name
+// that is not UTF-8 is escaped, all of it. A line that cannot be written is dropped.
 pub fn fail(rt: &impl Eprint, what: &[u8], error: io::Error)
     ensures { result ≡ tt }
 {
