@@ -122,7 +122,8 @@ blocks_requests zero l =
 blocks_requests (suc zero) l =
     known_row two_blocks blocks_longer (request_tag 32 0x0003000c 12) (request_tag 36 0x0003000c 16) (Kind.Outside OutsideTag.Allocate) 12 refl refl
 blocks_requests (suc (suc zero)) l =
-    known_row two_blocks blocks_longer (request_tag 56 0x0003000d 8) (request_tag 64 0x0003000d 12) (Kind.Outside (OutsideTag.Handle HandleTag.Lock)) 4 refl refl
+    known_row two_blocks blocks_longer (request_tag 56 0x0003000d 8) (request_tag 64 0x0003000d 12)
+    (Kind.Outside (OutsideTag.Handle HandleTag.Lock)) 4 refl refl
 blocks_requests (suc (suc (suc i))) l = absurd (omega arith)
 
 blocks_values : (i : ℕ) → i < 3 → (tag_of two_blocks i).size ≤ (tag_of blocks_longer i).size

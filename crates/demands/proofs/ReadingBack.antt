@@ -109,8 +109,9 @@ module _ (b : Board) (m : List ℕ) (g : GoodSize (word m 0) (length m)) where
             judged (tag_after (tag_of m i) s) wanted) e
             ∙ judged_lacks (tag_of m i) answer (answer_fits b m i e) wanted q;
       };
-      unanswered_read = λ i l e w wanted. ap (λ (x : List ℕ). found x (tag_of m i).id (occurrence_at m i) wanted) is ∙ judged_left i l wanted ∙ ap (λ (s : Said).
-          judged (tag_after (tag_of m i) s) wanted) e
+      unanswered_read = λ i l e w wanted.
+          ap (λ (x : List ℕ). found x (tag_of m i).id (occurrence_at m i) wanted) is ∙ judged_left i l wanted
+          ∙ ap (λ (s : Said). judged (tag_after (tag_of m i) s) wanted) e
           ∙ sym (judged_not_answered (tag_of m i) wanted w refl);
     }
 

@@ -158,7 +158,8 @@ refused_apart : Mixes release_refused → ⊥
 refused_apart x = go x.0.0 (rw refused_asks at x.0.1)
   where
     go : (i : ℕ)
-        → AsksGroup true (get_or (asks (Kind.Group FrameTag.Release) [] ∷ asks (Kind.Group (FrameTag.Set Setting.Depth)) (7 ∷ 0 ∷ 0 ∷ 0 ∷ []) ∷ []) i passed) → ⊥
+        → AsksGroup true (get_or (asks (Kind.Group FrameTag.Release) [] ∷ asks (Kind.Group (FrameTag.Set Setting.Depth)) (7 ∷ 0 ∷ 0 ∷ 0 ∷ []) ∷ []) i passed)
+        → ⊥
     go zero e = true≢false cc
     go (suc zero) e = true≢false cc
     go (suc (suc i)) e = e

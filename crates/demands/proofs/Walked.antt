@@ -50,8 +50,8 @@ module _ (b : Board) (m : List ℕ) (g : GoodSize (word m 0) (length m)) where
 
   pub follows_reply : Follows reply_bytes (word m 0) header (tags_after (walk_of m).tags (answers_of b m)) (walk_of m).ending
   follows_reply =
-      follows_same filled reply_bytes (word m 0) header (tags_after (walk_of m).tags (answers_of b m)) (walk_of m).ending (sym (drop_put code_place code_bytes filled
-      header (omega arith)))
+      follows_same filled reply_bytes (word m 0) header (tags_after (walk_of m).tags (answers_of b m)) (walk_of m).ending
+      (sym (drop_put code_place code_bytes filled header (omega arith)))
       (follows_written m (word m 0) header (walk_of m).tags (answers_of b m) (walk_of m).ending (follows m (word m 0) header)
       (saids_fit (decision_of b m) b (trail_of m).requests) g.within)
 

@@ -13,7 +13,8 @@ use Rattle.demands.specs.Terms.{trail_of, answers_of}
 
 -- the outcomes 1, 2, 3 and 14
 abbrev pub Refusal : (outcome : ℕ) → Type 0
-Refusal outcome = (outcome ≡ too_few_lent) ⊎ ((outcome ≡ bad_size) ⊎ ((outcome ≡ not_request) ⊎ (outcome ≡ invalid_board)))
+Refusal outcome =
+    (outcome ≡ too_few_lent) ⊎ ((outcome ≡ bad_size) ⊎ ((outcome ≡ not_request) ⊎ (outcome ≡ invalid_board)))
 
 -- Any bytes and any record get an outcome by number: 0, a fault 4, 5 or 6, or a refusal 1, 2, 3 or 14.
 abbrev pub Numbered : Type 0

@@ -1,5 +1,6 @@
 -- The lister shows what the builder took.
-use Rattle.std.specs.Prelude.{Bool, true, false, List, [], ◌∷◌, ◌++◌, ◌≡◌, ℕ, ◌+◌, ◌-◌, ◌^◌, ◌≤◌, ◌<◌, eqb, length, take, drop, get_or}
+use Rattle.std.specs.Prelude.{Bool, true, false, List, [], ◌∷◌, ◌++◌, ◌≡◌, ℕ, ◌+◌, ◌-◌, ◌^◌, ◌≤◌, ◌<◌, eqb}
+use Rattle.std.specs.Prelude.{length, take, drop, get_or}
 use Rattle.words.specs.Put.{zeros}
 use Rattle.message.specs.Builder.{Call, started, added, finished}
 use Rattle.message.specs.Lister.{listed, unlisted}

@@ -50,7 +50,8 @@ new_block base size alignment flags =
 unfoldable pub allocation : (heap : Span) → List Block → (size alignment flags : ℕ) → Allocation
 allocation heap blocks size alignment flags =
     cond (grants heap blocks size alignment)
-    (Allocation.Granted (free_handle blocks) (new_block (lowest_address heap blocks size alignment) size alignment flags))
+    (Allocation.Granted (free_handle blocks)
+    (new_block (lowest_address heap blocks size alignment) size alignment flags))
     Allocation.Refused
 
 -- it answers the handle, 0 where it is refused

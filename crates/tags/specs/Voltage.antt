@@ -53,7 +53,8 @@ voltage_value tag v = cond v.valid (voltage_of tag v) 0x8000_0000
 
 -- a tag's answer, and the voltages that it leaves
 abbrev pub voltage_answer : VoltageTag → (request : List ℕ) → List Voltage → List ℕ
-voltage_answer t request voltages = item_answer no_voltage voltage_place (voltage_after t) (voltage_value t) request voltages
+voltage_answer t request voltages =
+    item_answer no_voltage voltage_place (voltage_after t) (voltage_value t) request voltages
 
 abbrev pub voltages_after : VoltageTag → (request : List ℕ) → List Voltage → List Voltage
 voltages_after t request voltages = items_after no_voltage voltage_place (voltage_after t) request voltages

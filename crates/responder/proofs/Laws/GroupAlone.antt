@@ -46,7 +46,8 @@ group_region d e rs = go (eqb e.outcome done) (operation (unasked d.settings) rs
 
 -- ---- the other tags
 module _ (g : Decision) (d : Display) where
-  turn_beside : (b : Board) (r : Request) → turn_of g (with_display b d) r ≡ record { said = (turn_of g b r).said; state = with_display (turn_of g b r).state d }
+  turn_beside : (b : Board) (r : Request)
+      → turn_of g (with_display b d) r ≡ record { said = (turn_of g b r).said; state = with_display (turn_of g b r).state d }
   unfolding turn_of
   turn_beside b passed = refl
   turn_beside b short = refl

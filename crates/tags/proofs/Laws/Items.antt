@@ -159,7 +159,8 @@ pub power_set_get : (d : Device) → power_value PowerTag.SetState d ≡ power_v
 unfolding power_value
 power_set_get d = refl
 
-pub clock_set_get : (c : Clock) → (clock_value ClockTag.SetState c ≡ clock_value ClockTag.State c) × (clock_value ClockTag.SetRate c ≡ clock_value ClockTag.Rate c)
+pub clock_set_get : (c : Clock)
+    → (clock_value ClockTag.SetState c ≡ clock_value ClockTag.State c) × (clock_value ClockTag.SetRate c ≡ clock_value ClockTag.Rate c)
 unfolding clock_value
 clock_set_get c = (refl, refl)
 

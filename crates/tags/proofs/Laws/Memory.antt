@@ -171,7 +171,8 @@ module _ (blocks : List Block) (address size alignment : ℕ) where
         b = get_or blocks i no_block
 
         go : (t : Bool) → clear_of (span a size) (get_or blocks i no_block) ≡ t
-            → r ≡ cond t a (round_up alignment ((get_or blocks i no_block).base + (get_or blocks i no_block).size)) → Raising blocks address size alignment r (i + 1)
+            → r ≡ cond t a (round_up alignment ((get_or blocks i no_block).base + (get_or blocks i no_block).size))
+            → Raising blocks address size alignment r (i + 1)
         go true t e =
             record {
               even = rw e s.even;
@@ -361,7 +362,8 @@ module _ (b : Block) where
   unlock_undoes = go b.taken refl
     where
       go : (t : Bool) → b.taken ≡ t
-          → cond (cond t (with_lock true b) b).taken (with_lock false (cond t (with_lock true b) b)) (cond t (with_lock true b) b) ≡ cond t (with_lock false b) b
+          → cond (cond t (with_lock true b) b).taken (with_lock false (cond t (with_lock true b) b)) (cond t (with_lock true b) b)
+          ≡ cond t (with_lock false b) b
       go true e = ap (λ (x : Bool). cond x (with_lock false b) (with_lock true b)) e
       go false e = ap (λ (x : Bool). cond x (with_lock false b) b) e
 

@@ -100,8 +100,8 @@ module _ (request : List ℕ) (b : Board) {a x : ℕ} (ea : a ≡ id_of request)
           let q = placed (OutsideTag.Power t) ek in
           rw ek (record { says = rw (← ea, ← ex, q, ← ed, ← en); left = rw (← ea, ← ex, q, ← ed) })
 
-      pub serves_clock : {t : ClockTag} → k ≡ OutsideTag.Clock t → {c : Clock} → c ≡ clock_after t x (get_or b.clocks i no_clock) → {n : ℕ} → n ≡ clock_value t c
-          → Serves k request b (two_words a n) (with_clocks b (set b.clocks i c))
+      pub serves_clock : {t : ClockTag} → k ≡ OutsideTag.Clock t → {c : Clock} → c ≡ clock_after t x (get_or b.clocks i no_clock) → {n : ℕ}
+          → n ≡ clock_value t c → Serves k request b (two_words a n) (with_clocks b (set b.clocks i c))
       unfolding outside_answer outside_after
       serves_clock {t} ek ec en =
           let q = placed (OutsideTag.Clock t) ek in
