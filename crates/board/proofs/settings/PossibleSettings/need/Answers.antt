@@ -1,11 +1,11 @@
-use native.Mathlib.Omega.{arith}
+use Rattle.std.proofs.Common.{arith}
 use Rattle.board.proofs.Laws.Display.{need_most}
 use Rattle.board.specs.Display.{need}
-use Rattle.board.proofs.settings.need.Goals as goal
+use Rattle.board.proofs.settings.PossibleSettings.need.Goals as goal
 
 pub overflow_mul-result : goal.overflow_mul-result
 unfolding need
-overflow_mul-result c = rw c.pitch.ensures (omega (arith, need_most _ c.requires))
+overflow_mul-result c = rw c.pitch.ensures (omega (arith, need_most _ c.args.self.possible))
 
 pub returns : goal.returns
 unfolding need
