@@ -1,5 +1,5 @@
 -- The decision on an operation.
-use Rattle.std.specs.Prelude.{Bool, true, false, cond, ◌&&◌, List, [], ℕ, ◌+◌, eqb, leb}
+use Rattle.std.specs.Prelude.{Bool, true, false, cond, ◌&&◌, Option, Some, None, List, [], ℕ, ◌+◌, eqb, leb}
 use Rattle.words.specs.Align.{one_bit}
 use Rattle.words.specs.Numbers.{le}
 use Rattle.words.specs.Round.{round_up}
@@ -23,29 +23,40 @@ supported_from d proposal = supported d.region.size proposal
 
 -- where an allocate places its buffer: at the lowest multiple of the alignment at or above the region's base, with the
 -- size that is needed
-unfoldable pub placed_at : Display → Operation → Span
-placed_at d o = span (round_up o.alignment d.region.base) (need o.proposal)
+unfoldable pub placed_at : (alignment : ℕ) → Display → (proposal : Settings) → Span
+placed_at alignment d proposal = span (round_up alignment d.region.base) (need proposal)
 
 -- with an allocate tag: the last one's alignment has exactly one bit set, and from that base on the region has room for
 -- need
-unfoldable pub allocatable : Display → Operation → Bool
-allocatable d o =
-    one_bit o.alignment && leb ((placed_at d o).base + (placed_at d o).size) (d.region.base + d.region.size)
+unfoldable pub allocatable : (alignment : ℕ) → Display → (proposal : Settings) → Bool
+allocatable alignment d proposal =
+    one_bit alignment
+    && leb ((placed_at alignment d proposal).base + (placed_at alignment d proposal).size) (d.region.base + d.region.size)
 
 -- without one, and with a buffer standing and no release: need is at most the buffer's size
 unfoldable pub fits_buffer : Display → Operation → Bool
 fits_buffer d o =
     cond (eqb d.buffer.size 0) true (cond o.releases true (leb (need o.proposal) d.buffer.size))
 
+-- there is a buffer for it: with an allocate tag, by its alignment, and without one
+abbrev pub has_buffer : (alignment : Option ℕ) → Display → Operation → Bool
+has_buffer (Some alignment) d o = allocatable alignment d o.proposal
+has_buffer None d o = fits_buffer d o
+
 -- the operation is accepted when its proposal is supported, and there is a buffer for it
 unfoldable pub accepted : Display → Operation → Bool
-accepted d o = supported_from d o.proposal && cond o.allocates (allocatable d o) (fits_buffer d o)
+accepted d o = supported_from d o.proposal && has_buffer o.alignment d o
+
+-- an allocate answers the buffer that it places
+abbrev pub buffer_placed : (alignment : Option ℕ) → Display → Operation → Span
+buffer_placed (Some alignment) d o = placed_at alignment d o.proposal
+buffer_placed None d o = nowhere
 
 -- release drops the buffer; allocate, whatever the order, places one
-abbrev pub buffer_after : (allocates releases : Bool) → Display → Operation → Span
-buffer_after true releases d o = placed_at d o
-buffer_after false true d o = nowhere
-buffer_after false false d o = d.buffer
+abbrev pub buffer_after : (alignment : Option ℕ) → (releases : Bool) → Display → Operation → Span
+buffer_after (Some alignment) releases d o = placed_at alignment d o.proposal
+buffer_after None true d o = nowhere
+buffer_after None false d o = d.buffer
 
 -- these settings are answered, with their pitch; no operation is accepted, and the display is left as it is given
 abbrev pub showing : Settings → Display → Decision
@@ -76,11 +87,11 @@ carried_out true d o = record {
   accepted = true;
   shown = o.proposal;
   pitch = pitch o.proposal;
-  placed = cond o.allocates (placed_at d o) nowhere;
+  placed = buffer_placed o.alignment d o;
   display = record {
     region = d.region;
     settings = o.proposal;
-    buffer = buffer_after o.allocates o.releases d o;
+    buffer = buffer_after o.alignment o.releases d o;
   };
 }
 carried_out false d o = showing d.settings d

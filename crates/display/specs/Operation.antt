@@ -1,5 +1,5 @@
 -- All group tags of a message as one operation.
-use Rattle.std.specs.Prelude.{true, false, List, ℕ}
+use Rattle.std.specs.Prelude.{true, false, Some, None, List, ℕ}
 use Rattle.words.specs.Numbers.{nth_word}
 use Rattle.board.specs.declared.display.Offset.{Offset}
 use Rattle.board.specs.declared.display.Settings.{Settings}
@@ -70,7 +70,7 @@ with_setting Setting.Offset request s = record {
 -- no tag yet: the proposal is the current settings
 abbrev pub unasked : Settings → Operation
 unasked s =
-    record { tests = false; others = false; proposal = s; allocates = false; alignment = 0; releases = false }
+    record { tests = false; others = false; proposal = s; alignment = None; releases = false }
 
 -- with a test, and with a tag that is none
 abbrev pub with_test : Operation → Operation
@@ -78,7 +78,6 @@ with_test o = record {
   tests = true;
   others = o.others;
   proposal = o.proposal;
-  allocates = o.allocates;
   alignment = o.alignment;
   releases = o.releases;
 }
@@ -88,7 +87,6 @@ with_other o = record {
   tests = o.tests;
   others = true;
   proposal = o.proposal;
-  allocates = o.allocates;
   alignment = o.alignment;
   releases = o.releases;
 }
@@ -99,7 +97,6 @@ with_proposal s request o = record {
   tests = o.tests;
   others = o.others;
   proposal = with_setting s request o.proposal;
-  allocates = o.allocates;
   alignment = o.alignment;
   releases = o.releases;
 }
@@ -110,8 +107,7 @@ with_allocate alignment o = record {
   tests = o.tests;
   others = o.others;
   proposal = o.proposal;
-  allocates = true;
-  alignment = alignment;
+  alignment = Some alignment;
   releases = o.releases;
 }
 
@@ -120,7 +116,6 @@ with_release o = record {
   tests = o.tests;
   others = o.others;
   proposal = o.proposal;
-  allocates = o.allocates;
   alignment = o.alignment;
   releases = true;
 }

@@ -1,14 +1,16 @@
 // The decision on an operation.
-ghost use Rattle.std.specs.Prelude.{true, cond, ◌≡◌};
-ghost use Rattle.board.specs.Display.{possible, valid_display};
+ghost use Rattle.std.specs.Prelude.{true, false, cond, ◌≡◌, Some, None, MatchOption};
 ghost use Rattle.display.specs.Decision.{nowhere, supported_from, placed_at, allocatable, fits_buffer, accepted};
-ghost use Rattle.display.specs.Decision.{showing, left_alone, tested, carried_out, decided};
+ghost use Rattle.display.specs.Decision.{has_buffer, buffer_placed, buffer_after, showing, left_alone, tested};
+ghost use Rattle.display.specs.Decision.{carried_out, decided};
 
 use crate::operation::Operation;
+use crate::valid::ValidDisplay;
 use board::display::{Display, Settings};
 use board::facts::Span;
-use board::settings::{is_supported, need, pitch};
-use words::align::{lowest_multiple, one_bit};
+use board::memory::end;
+use board::settings::PossibleSettings;
+use words::align::Alignment;
 
 // Whether the group's tags are answered, whether the operation was accepted, the settings, the pitch and the
 // buffer that they answer, and the display afterwards.
@@ -22,158 +24,154 @@ pub struct Decision {
     pub display: Display,
 }
 
+// The buffer that an operation places, and the one that stands afterwards.
+#[derive(Clone, Copy)]
+struct Buffers {
+    placed: Span,
+    standing: Span,
+}
+
 fn no_buffer() -> Span
     ensures { result ≡ nowhere }
 {
     Span { base: 0, size: 0 }
 }
 
-// Whether settings may be proposed, given those of the display.
-fn is_supported_from(d: Display, proposal: Settings) -> bool
-    ensures { result ≡ supported_from d proposal }
+// The settings that an operation proposes, where they are supported.
+#[tactic(auto, unfolding(crate::specs::Decision::supported_from, board::specs::Display::supported))]
+fn proposed(d: ValidDisplay, o: Operation) -> Option<PossibleSettings>
+    ensures { MatchOption result (supported_from d.display o.proposal ≡ false)
+        (λ p. (supported_from d.display o.proposal ≡ true) × (p.settings ≡ o.proposal)) }
 {
-    let region = d.region;
-    is_supported(region.size, proposal)
+    let region = d.display.region;
+    let proposal = PossibleSettings::new(o.proposal)?;
+    if region.size < proposal.need() {
+        return None;
+    }
+    Some(proposal)
 }
 
-fn is_allocatable(d: Display, o: Operation) -> bool
-    requires { possible o.proposal ≡ true }
-    ensures { result ≡ allocatable d o }
+// The buffer that an allocate of this alignment places, where the region has room for it.
+#[tactic(auto, unfolding(crate::specs::Decision::allocatable, crate::specs::Decision::placed_at))]
+fn place(d: ValidDisplay, alignment: u32, proposal: PossibleSettings) -> Option<Span>
+    ensures { result ≡ cond (allocatable alignment d.display proposal.settings)
+        (Some (placed_at alignment d.display proposal.settings)) None }
 {
-    let region = d.region;
-    if one_bit(o.alignment) {
-        let base = lowest_multiple(region.base as u64, o.alignment);
-        let size = need(o.proposal);
-        return base + size as u64 <= region.base as u64 + region.size as u64;
+    let region = d.display.region;
+    let alignment = Alignment::new(alignment)?;
+    let base = alignment.lowest_multiple(region.base as u64);
+    let size = proposal.need();
+    if end(region) < base + size as u64 {
+        return None;
     }
-    false
+    Some(Span {
+        base: base as u32,
+        size,
+    })
 }
 
-fn fits_buffer(d: Display, o: Operation) -> bool
-    requires { possible o.proposal ≡ true }
-    ensures { result ≡ fits_buffer d o }
+// Whether the buffer that stands may stay, or goes.
+#[tactic(auto, unfolding(crate::specs::Decision::fits_buffer))]
+fn fits_buffer(d: ValidDisplay, o: Operation, proposal: PossibleSettings) -> bool
+    requires { proposal.settings ≡ o.proposal }
+    ensures { result ≡ fits_buffer d.display o }
 {
-    let buffer = d.buffer;
-    if buffer.size == 0 {
-        return true;
-    }
-    if o.releases {
-        return true;
-    }
-    need(o.proposal) <= buffer.size
+    let buffer = d.display.buffer;
+    buffer.size == 0 || o.releases || proposal.need() <= buffer.size
 }
 
-fn is_accepted(d: Display, o: Operation) -> bool
-    ensures { result ≡ accepted d o }
+fn buffers_of(d: ValidDisplay, o: Operation, proposal: PossibleSettings) -> Option<Buffers>
+    requires { proposal.settings ≡ o.proposal }
+    ensures { result ≡ cond (has_buffer o.alignment d.display o) (Some (record {
+      placed = buffer_placed o.alignment d.display o;
+      standing = buffer_after o.alignment o.releases d.display o;
+    })) None }
 {
-    if is_supported_from(d, o.proposal) {
-        if o.allocates {
-            return is_allocatable(d, o);
-        }
-        return fits_buffer(d, o);
+    if let Some(alignment) = o.alignment {
+        let placed = place(d, alignment, proposal)?;
+        return Some(Buffers {
+            placed,
+            standing: placed,
+        });
     }
-    false
+    if !fits_buffer(d, o, proposal) {
+        return None;
+    }
+    let placed = no_buffer();
+    let standing = if o.releases { placed } else { d.display.buffer };
+    Some(Buffers { placed, standing })
 }
 
-// The buffer that an accepted operation's allocate tags answer.
-fn placed(d: Display, o: Operation) -> Span
-    requires { (valid_display d ≡ true) × (accepted d o ≡ true) }
-    ensures { result ≡ cond o.allocates (placed_at d o) nowhere }
-{
-    if o.allocates {
-        let region = d.region;
-        let base = lowest_multiple(region.base as u64, o.alignment);
-        return Span {
-            base: base as u32,
-            size: need(o.proposal),
-        };
-    }
-    no_buffer()
-}
-
-// The buffer that stands afterwards.
-fn standing(o: Operation, placed: Span, buffer: Span) -> Span
-    ensures { result ≡ cond o.allocates placed (cond o.releases nowhere buffer) }
-{
-    if o.allocates {
-        return placed;
-    }
-    if o.releases {
-        return no_buffer();
-    }
-    buffer
-}
-
-fn show(s: Settings, d: Display) -> Decision
-    requires { possible s ≡ true }
-    ensures { result ≡ showing s d }
+fn show(s: PossibleSettings, d: Display) -> Decision
+    ensures { result ≡ showing s.settings d }
 {
     Decision {
         answered: true,
         accepted: false,
-        shown: s,
-        pitch: pitch(s),
+        shown: s.settings,
+        pitch: s.pitch(),
         placed: no_buffer(),
         display: d,
     }
 }
 
-// The group is left alone. No entry point: for a valid display.
-pub fn leave(d: Display) -> Decision
-    requires { valid_display d ≡ true }
-    ensures { result ≡ left_alone d }
+// The group is left alone.
+pub fn leave(d: ValidDisplay) -> Decision
+    ensures { result ≡ left_alone d.display }
 {
-    let mut decision = show(d.settings, d);
-    decision.answered = false;
-    decision
-}
-
-fn test(d: Display, o: Operation) -> Decision
-    requires { valid_display d ≡ true }
-    ensures { result ≡ tested (supported_from d o.proposal) d o }
-{
-    if is_supported_from(d, o.proposal) {
-        return show(o.proposal, d);
+    Decision {
+        answered: false,
+        ..show(d.settings(), d.display)
     }
-    show(d.settings, d)
 }
 
-fn carry_out(d: Display, o: Operation) -> Decision
-    requires { (valid_display d ≡ true) × (accepted d o ≡ true) }
-    ensures { result ≡ carried_out true d o }
+fn test(d: ValidDisplay, o: Operation) -> Decision
+    ensures { result ≡ tested (supported_from d.display o.proposal) d.display o }
 {
-    let placed = placed(d, o);
-    let region = d.region;
-    let settings = o.proposal;
-    let buffer = standing(o, placed, d.buffer);
-    let display = Display {
-        region,
-        settings,
-        buffer,
+    let shown = match proposed(d, o) {
+        Some(proposal) => proposal,
+        None => d.settings(),
     };
-    let mut decision = show(settings, display);
-    decision.accepted = true;
-    decision.placed = placed;
-    decision
+    show(shown, d.display)
 }
 
-// The decision on an operation. No entry point: for a valid display.
-pub fn decide(d: Display, o: Operation) -> Decision
-    requires { valid_display d ≡ true }
-    ensures { result ≡ decided d o }
+// The decision on sets and gets that are accepted.
+#[tactic(auto, unfolding(crate::specs::Decision::accepted))]
+fn accept(d: ValidDisplay, o: Operation) -> Option<Decision>
+    ensures { result ≡ cond (accepted d.display o) (Some (carried_out true d.display o)) None }
 {
-    if o.tests {
-        if o.others {
-            return leave(d);
-        }
-        return test(d, o);
+    let proposal = proposed(d, o)?;
+    let buffers = buffers_of(d, o, proposal)?;
+    let display = Display {
+        settings: proposal.settings,
+        buffer: buffers.standing,
+        ..d.display
+    };
+    Some(Decision {
+        accepted: true,
+        placed: buffers.placed,
+        ..show(proposal, display)
+    })
+}
+
+fn carry_out(d: ValidDisplay, o: Operation) -> Decision
+    ensures { result ≡ carried_out (accepted d.display o) d.display o }
+{
+    match accept(d, o) {
+        Some(decision) => decision,
+        None => show(d.settings(), d.display),
     }
-    if o.others {
-        if is_accepted(d, o) {
-            return carry_out(d, o);
-        }
-        return show(d.settings, d);
+}
+
+// The decision on an operation.
+#[tactic(auto, unfolding(crate::specs::Decision::decided))]
+pub fn decide(d: ValidDisplay, o: Operation) -> Decision
+    ensures { result ≡ decided d.display o }
+{
+    match (o.tests, o.others) {
+        (true, false) => test(d, o),
+        (false, true) => carry_out(d, o),
+        // Tests beside other tags leave the group alone; without a group tag there is nothing to decide.
+        _ => leave(d),
     }
-    // Without a group tag there is nothing to decide.
-    leave(d)
 }

@@ -4,3 +4,4 @@
 pub mod answer;
 pub mod decision;
 pub mod operation;
+pub mod valid;

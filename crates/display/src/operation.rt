@@ -1,20 +1,19 @@
 // All group tags of a message as one operation.
 ghost use Rattle.std.specs.Prelude.{◌≡◌};
-ghost use Rattle.display.specs.Operation.{size_of, offset_of, with_setting, unasked, with_other, noted};
+ghost use Rattle.display.specs.Operation.{size_of, offset_of, with_setting, unasked, noted};
 
 use board::display::{Offset, Settings, Size};
 use table::kinds::{FrameTag, Setting};
 use words::numbers::nth_word;
 
 // What the group tags come to: whether there are tests, and others; the settings that they propose,
-// later over earlier; the last allocate's alignment; a release.
+// later over earlier; the last allocate's alignment, where there is one; whether there is a release.
 #[derive(Clone, Copy)]
 pub struct Operation {
     pub tests: bool,
     pub others: bool,
     pub proposal: Settings,
-    pub allocates: bool,
-    pub alignment: u32,
+    pub alignment: Option<u32>,
     pub releases: bool,
 }
 
@@ -26,8 +25,7 @@ pub fn no_tag_yet(settings: Settings) -> Operation
         tests: false,
         others: false,
         proposal: settings,
-        allocates: false,
-        alignment: 0,
+        alignment: None,
         releases: false,
     }
 }
@@ -50,73 +48,64 @@ fn offset_of(request: &[u8]) -> Offset
     }
 }
 
-fn with_setting(mut s: Settings, setting: Setting, request: &[u8]) -> Settings
+#[tactic(auto, unfolding(crate::specs::Operation::with_setting))]
+fn with_setting(s: Settings, setting: Setting, request: &[u8]) -> Settings
     ensures { result ≡ with_setting setting request.now s }
 {
     match setting {
-        Setting::Physical => {
-            let size = size_of(request);
-            s.physical = size;
-            s
-        }
-        Setting::Virtual => {
-            let size = size_of(request);
-            s.logical = size;
-            s
-        }
-        Setting::Depth => {
-            s.depth = nth_word(request, 0);
-            s
-        }
-        Setting::Order => {
-            s.order = nth_word(request, 0);
-            s
-        }
-        Setting::Alpha => {
-            s.alpha = nth_word(request, 0);
-            s
-        }
-        Setting::Offset => {
-            let offset = offset_of(request);
-            s.offset = offset;
-            s
-        }
+        Setting::Physical => Settings {
+            physical: size_of(request),
+            ..s
+        },
+        Setting::Virtual => Settings {
+            logical: size_of(request),
+            ..s
+        },
+        Setting::Depth => Settings {
+            depth: nth_word(request, 0),
+            ..s
+        },
+        Setting::Order => Settings {
+            order: nth_word(request, 0),
+            ..s
+        },
+        Setting::Alpha => Settings {
+            alpha: nth_word(request, 0),
+            ..s
+        },
+        Setting::Offset => Settings {
+            offset: offset_of(request),
+            ..s
+        },
     }
 }
 
-fn with_other(mut o: Operation) -> Operation
-    ensures { result ≡ with_other o }
-{
-    o.others = true;
-    o
-}
-
 // The operation with one tag more, with its request.
-pub fn note(mut o: Operation, tag: FrameTag, request: &[u8]) -> Operation
+#[tactic(auto, unfolding(crate::specs::Operation::noted))]
+pub fn note(o: Operation, tag: FrameTag, request: &[u8]) -> Operation
     ensures { result ≡ noted tag request.now o }
 {
     match tag {
-        FrameTag::Get(_) => with_other(o),
-        FrameTag::Test(setting) => {
-            let proposal = with_setting(o.proposal, setting, request);
-            o.proposal = proposal;
-            o.tests = true;
-            o
-        }
-        FrameTag::Set(setting) => {
-            let proposal = with_setting(o.proposal, setting, request);
-            o.proposal = proposal;
-            with_other(o)
-        }
-        FrameTag::Pitch => with_other(o),
-        FrameTag::Allocate => {
-            o.allocates = true;
-            o.alignment = nth_word(request, 0);
-            with_other(o)
-        }
-        FrameTag::Release => {
-            o.releases = true;
-            with_other(o)
-        }
+        FrameTag::Get(_) | FrameTag::Pitch => Operation { others: true, ..o },
+        FrameTag::Test(setting) => Operation {
+            tests: true,
+            proposal: with_setting(o.proposal, setting, request),
+            ..o
+        },
+        FrameTag::Set(setting) => Operation {
+            others: true,
+            proposal: with_setting(o.proposal, setting, request),
+            ..o
+        },
+        FrameTag::Allocate => Operation {
+            others: true,
+            alignment: Some(nth_word(request, 0)),
+            ..o
+        },
+        FrameTag::Release => Operation {
+            others: true,
+            releases: true,
+            ..o
+        },
     }
 }

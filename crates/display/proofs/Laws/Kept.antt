@@ -1,20 +1,21 @@
 -- A valid display stays valid under every operation.
+use Rattle.std.specs.Prelude.{Option, Some, None}
 use mathlib.Core.Bool.{Bool, true, false, cond, not, ◌&&◌, true≢false}
 use mathlib.Core.Logic.{◌⊎◌, inl, inr}
 use mathlib.Core.Path.{◌≡◌, refl, sym, ap, ◌∙◌}
 use Prim.Native.Nat.{ℕ, ◌+◌, ◌<◌}
 use native.Mathlib.Nat.{eq-zero-or-pos}
 use native.Mathlib.Omega.{arith}
-use borrow.Author.Tests.{leb-true}
+use borrow.Author.Tests.{leb-true, ne_eqb}
 use lib.Dec.{eqb, leb}
 use Rattle.board.specs.Display.{need, valid_buffer, valid_display}
 use Rattle.board.specs.declared.display.Display.{Display}
 use Rattle.board.specs.declared.facts.Span.{Span}
 use Rattle.board.proofs.Laws.Display.{need_least, display_parts, parts_display, buffer_stands, buffer_valid, no_buffer_valid}
-use Rattle.display.specs.Decision.{supported_from, placed_at, accepted, buffer_after, tested, carried_out, decided_by, decided}
+use Rattle.display.specs.Decision.{supported_from, placed_at, fits_buffer, accepted, buffer_after, tested, carried_out, decided_by, decided}
 use Rattle.display.specs.declared.decision.Decision.{Decision}
 use Rattle.display.specs.declared.operation.Operation.{Operation}
-use Rattle.display.proofs.Laws.Decision.{accepted_supported, accepted_possible, accepted_placed, accepted_fits, one_stands, decided_by_is, decided_cases}
+use Rattle.display.proofs.Laws.Decision.{accepted_supported, accepted_possible, accepted_placed, accepted_fits, decided_by_is, decided_cases}
 
 -- where none stands, what is needed does not matter
 none_valid : (region : Span) (n : ℕ) (buffer : Span) → buffer.size ≡ 0 → valid_buffer region n buffer ≡ eqb buffer.base 0
@@ -23,34 +24,40 @@ none_valid region n buffer =
     ap (λ (k : ℕ). cond (eqb k 0) (eqb buffer.base 0) (leb region.base buffer.base && leb (buffer.base + buffer.size)
     (region.base + region.size) && leb n buffer.size))
 
+-- where one stands and is not released, it fits by its size
+stands_fits : (d : Display) (o : Operation) → (d.buffer.size ≡ 0 → ⊥) → o.releases ≡ false → leb (need o.proposal) d.buffer.size ≡ fits_buffer d o
+unfolding fits_buffer
+stands_fits d o n e = rw (ne_eqb _ _ n, e)
+
 module _ (d : Display) (o : Operation) (v : valid_display d ≡ true) where
   -- ---- the buffer that an accepted operation leaves
   module _ (e : accepted d o ≡ true) where
-    placed_valid : o.allocates ≡ true → valid_buffer d.region (need o.proposal) (placed_at d o) ≡ true
+    placed_valid : {alignment : ℕ} → o.alignment ≡ Some alignment
+        → valid_buffer d.region (need o.proposal) (placed_at alignment d o.proposal) ≡ true
     unfolding placed_at
     placed_valid a =
         let room = accepted_placed d o e a in
         let least = need_least o.proposal (accepted_possible d o e) in
         buffer_valid _ _ _ (λ z. omega arith) (record { from_base = room.from_base; last = room.last; enough = omega arith })
 
-    kept_valid : o.allocates ≡ false → o.releases ≡ false → (d.buffer.size ≡ 0) ⊎ (0 < d.buffer.size)
+    kept_valid : o.alignment ≡ None → o.releases ≡ false → (d.buffer.size ≡ 0) ⊎ (0 < d.buffer.size)
         → valid_buffer d.region (need o.proposal) d.buffer ≡ true
     kept_valid a r (inl z) = none_valid _ _ d.buffer z ∙ sym (none_valid _ _ d.buffer z) ∙ (display_parts d v).buffer
     kept_valid a r (inr p) =
         let stands : d.buffer.size ≡ 0 → ⊥ = λ z. omega arith in
         let inside = buffer_stands _ _ _ stands (display_parts d v).buffer in
-        buffer_valid _ _ _ stands
-        (record { from_base = inside.from_base; last = inside.last; enough = leb-true _ _ (one_stands d o stands r ∙ accepted_fits d o e a) })
+        let fits = leb-true _ _ (stands_fits d o stands r ∙ accepted_fits d o e a) in
+        buffer_valid _ _ _ stands (record { from_base = inside.from_base; last = inside.last; enough = fits })
 
-    after_valid : (allocates releases : Bool) → o.allocates ≡ allocates → o.releases ≡ releases
-        → valid_buffer d.region (need o.proposal) (buffer_after allocates releases d o) ≡ true
-    after_valid true releases a r = placed_valid a
-    after_valid false true a r = no_buffer_valid _ _
-    after_valid false false a r = kept_valid a r (eq-zero-or-pos d.buffer.size)
+    after_valid : (alignment : Option ℕ) → (releases : Bool) → o.alignment ≡ alignment → o.releases ≡ releases
+        → valid_buffer d.region (need o.proposal) (buffer_after alignment releases d o) ≡ true
+    after_valid (Some alignment) releases a r = placed_valid a
+    after_valid None true a r = no_buffer_valid _ _
+    after_valid None false a r = kept_valid a r (eq-zero-or-pos d.buffer.size)
 
     carried_valid : valid_display (carried_out true d o).display ≡ true
     carried_valid =
-        let buffer = after_valid o.allocates o.releases refl refl in
+        let buffer = after_valid o.alignment o.releases refl refl in
         parts_display _ (record { region = (display_parts d v).region; settings = accepted_supported d o e; buffer = buffer })
 
   pub decided_valid : valid_display (decided d o).display ≡ true
