@@ -30,8 +30,8 @@ placed_at alignment d proposal = span (round_up alignment d.region.base) (need p
 -- need
 unfoldable pub allocatable : (alignment : ℕ) → Display → (proposal : Settings) → Bool
 allocatable alignment d proposal =
-    one_bit alignment
-    && leb ((placed_at alignment d proposal).base + (placed_at alignment d proposal).size) (d.region.base + d.region.size)
+    let placed = placed_at alignment d proposal in
+    one_bit alignment && leb (placed.base + placed.size) (d.region.base + d.region.size)
 
 -- without one, and with a buffer standing and no release: need is at most the buffer's size
 unfoldable pub fits_buffer : Display → Operation → Bool
