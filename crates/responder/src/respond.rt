@@ -4,7 +4,6 @@ ghost use Rattle.message.specs.Builder.{leaves};
 ghost use Rattle.message.specs.Outcomes.{done};
 ghost use Rattle.message.specs.Sizes.{header};
 ghost use Rattle.message.specs.Helpers.{Walking};
-ghost use Rattle.board.specs.Display.{valid_display};
 ghost use Rattle.board.specs.Memory.{valid_heap};
 ghost use Rattle.board.specs.Record.{valid};
 ghost use Rattle.responder.specs.Answers.{group_by};
@@ -12,11 +11,11 @@ ghost use Rattle.responder.specs.Reply.{code_of, served, reply};
 ghost use Rattle.responder.specs.Serve.{group_served};
 
 use crate::walk::serve_tags;
-use board::display::Display;
 use board::record::Board;
 use board::valid::is_valid;
 use display::decision::{Decision, decide, leave};
 use display::operation::Operation;
+use display::valid::ValidDisplay;
 use message::opening::{Message, Opened, open};
 use message::outcome;
 use words::numbers::{put_u32, u32_at};
@@ -40,14 +39,14 @@ fn refused(outcome: u32, board: Board) -> Served
 }
 
 // The decision on the group's operation; after a fault the group is left alone.
-fn group_of(d: Display, outcome: u32, o: Operation) -> Decision
-    requires { valid_display d ≡ true }
-    ensures { result ≡ group_by (eqb outcome done) d o }
+fn group_of(d: ValidDisplay, outcome: u32, o: Operation) -> Decision
+    ensures { result ≡ group_by (eqb outcome done) d.display o }
 {
     if outcome == outcome::DONE {
-        return decide(d, o);
+        decide(d, o)
+    } else {
+        leave(d)
     }
-    leave(d)
 }
 
 // Answers the group's tags in a second walk, where the decision says so. The others carry bit 31 by
@@ -76,20 +75,22 @@ fn serve_opened(board: Board, msg: &mut [u8], size: usize) -> Served
     requires { (Walking msg.old size header) × (valid board ≡ true) }
     ensures { leaves msg.new result ≡ served board msg.old size }
 {
-    let display = board.display;
+    let display = ValidDisplay {
+        display: board.display,
+    };
     // The first walk leaves the group alone and notes what it asks.
     let first = serve_tags(board, msg, size, leave(display));
     let ending = first.ending;
     let group = group_of(display, ending.outcome, first.operation);
     answer_group(first.board, msg, size, group);
     put_u32(msg, Message::CODE, code_of(ending.outcome));
-    let mut after = first.board;
-    let left = group.display;
-    after.display = left;
     Served {
         outcome: ending.outcome,
         place: ending.place,
-        board: after,
+        board: Board {
+            display: group.display,
+            ..first.board
+        },
     }
 }
 

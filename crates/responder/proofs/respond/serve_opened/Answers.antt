@@ -3,14 +3,11 @@ use Rattle.board.proofs.Laws.Record.{valid_parts}
 use Rattle.responder.proofs.Laws.Responding.{valid_heap_of, walked_walking, walked_heap, served_is}
 use Rattle.responder.proofs.respond.serve_opened.Goals as goal
 
-pub leave-requires : goal.leave-requires
-leave-requires c = (valid_parts _ c.requires.1).display
+pub invariant_of-display : goal.invariant_of-display
+invariant_of-display c = record { valid = (valid_parts _ c.requires.1).display }
 
 pub serve_tags-first-requires : goal.serve_tags-first-requires
 serve_tags-first-requires c = (search rules, valid_heap_of _ c.requires.1)
-
-pub group_of-group-requires : goal.group_of-group-requires
-group_of-group-requires c = (valid_parts _ c.requires.1).display
 
 pub answer_group-requires : goal.answer_group-requires
 answer_group-requires c = (
