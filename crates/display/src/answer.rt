@@ -27,14 +27,15 @@ fn put_setting(msg: &mut [u8], at: usize, size: u32, s: Settings, setting: Setti
 }
 
 // Answers a tag of the group. Get, test and set of a setting answer alike.
+#[tactic(auto, unfolding(crate::specs::Decision::group_answer))]
 fn put_frame(msg: &mut [u8], at: usize, size: u32, d: Decision, tag: FrameTag)
     requires { InMessage (length msg.old) at size }
     ensures { FramePut d tag at size msg.old msg.new }
 {
     match tag {
-        FrameTag::Get(setting) => put_setting(msg, at, size, d.shown, setting),
-        FrameTag::Test(setting) => put_setting(msg, at, size, d.shown, setting),
-        FrameTag::Set(setting) => put_setting(msg, at, size, d.shown, setting),
+        FrameTag::Get(setting) | FrameTag::Test(setting) | FrameTag::Set(setting) => {
+            put_setting(msg, at, size, d.shown, setting);
+        }
         FrameTag::Pitch => put_word(msg, at, size, d.pitch),
         FrameTag::Allocate => put_pair(msg, at, size, d.placed.base, d.placed.size),
         FrameTag::Release => put_nothing(msg, at),
