@@ -1,5 +1,5 @@
 // Alignments.
-ghost use Rattle.std.specs.Prelude.{true, ◌≡◌, ◌<◌};
+ghost use Rattle.std.specs.Prelude.{true, false, ◌≡◌, ◌<◌, MatchOption};
 ghost use Rattle.words.specs.Align.{one_bit, aligned};
 ghost use Rattle.words.specs.Round.{round_up};
 
@@ -10,13 +10,49 @@ pub fn one_bit(a: u32) -> bool
     u32::count_ones(a) == 1
 }
 
+// A word that has exactly one bit set.
+#[derive(Clone, Copy)]
+pub struct Alignment {
+    pub value: u32,
+    pub ghost one_bit: { one_bit value ≡ true },
+}
+
+impl Alignment {
+    // The alignment of a word, where it has exactly one bit set.
+    pub fn new(n: u32) -> Option<Alignment>
+        ensures { MatchOption result (one_bit n ≡ false) (λ a. (one_bit n ≡ true) × (a.value ≡ n)) }
+    {
+        if one_bit(n) {
+            Some(Alignment { value: n })
+        } else {
+            None
+        }
+    }
+
+    // Whether an address is a multiple of the alignment.
+    pub fn is_multiple(self, address: u32) -> bool
+        ensures { result ≡ aligned self.value address }
+    {
+        address.is_multiple_of(self.value)
+    }
+
+    // The lowest multiple of the alignment at or above the address, which is the sum of two words at most: the
+    // multiple may pass 2^32.
+    pub fn lowest_multiple(self, address: u64) -> u64
+        requires { address < 0x2_0000_0000 }
+        ensures { result ≡ round_up self.value address }
+    {
+        address.next_multiple_of(self.value as u64)
+    }
+}
+
 // Whether an address is a multiple of the alignment. No entry point: for an alignment that has one bit
 // set.
 pub fn is_aligned(alignment: u32, address: u32) -> bool
     requires { one_bit alignment ≡ true }
     ensures { result ≡ aligned alignment address }
 {
-    address % alignment == 0
+    Alignment { value: alignment }.is_multiple(address)
 }
 
 // The lowest multiple of the alignment at or above the address: it may pass 2^32. No entry point: for an
@@ -25,6 +61,5 @@ pub fn lowest_multiple(address: u64, alignment: u32) -> u64
     requires { (one_bit alignment ≡ true) × (address < 0x2_0000_0000) }
     ensures { result ≡ round_up alignment address }
 {
-    let a = alignment as u64;
-    (address + (a - 1)) / a * a
+    Alignment { value: alignment }.lowest_multiple(address)
 }
