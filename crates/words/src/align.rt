@@ -7,7 +7,7 @@ ghost use Rattle.words.specs.Round.{round_up};
 pub fn one_bit(a: u32) -> bool
     ensures { result ≡ one_bit a }
 {
-    u32::count_ones(a) == 1
+    a.count_ones() == 1
 }
 
 // A word that has exactly one bit set.
