@@ -1,7 +1,0 @@
-use mathlib.Core.Path.{◌∙◌}
-use mir.Syntax.{w64}
-use Rattle.words.proofs.Laws.Parts.{put_number}
-use Rattle.words.proofs.numbers.put_u64.Goals as goal
-
-pub returns : goal.returns
-returns c = put_number w64 _ _ _ c.requires (c.copy_from_slice.ensures.after ∙ c.to_le_bytes.ensures)
