@@ -1,5 +1,4 @@
-// Answers of tags: their first bytes stored into a value, and the whole written into its message.
+// Answers of tags, written into their message: the tag word, and the value's first bytes.
 #![tactic(auto)]
 
-pub mod answer;
 pub mod writing;

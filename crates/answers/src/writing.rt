@@ -9,53 +9,10 @@ ghost use Rattle.message.specs.Helpers.{InMessage};
 ghost use Rattle.answers.specs.Answer.{two_words};
 ghost use Rattle.answers.specs.Writing.{answered};
 
-use crate::answer::{store_long, store_pair, store_word};
 use message::opening::Message;
 use message::walk::Tag;
 use words::bytes::store;
 use words::numbers::put_u32;
-
-// Answers the tag with no bytes, whatever the size of its value.
-pub fn put_nothing(msg: &mut [u8], at: usize)
-    requires { InMessage (length msg.old) at 0 }
-    ensures { msg.new ≡ answered at 0 [] msg.old }
-{
-    put_u32(msg, at + Tag::WORD, 0x8000_0000);
-}
-
-// Answers the tag with a word.
-pub fn put_word(msg: &mut [u8], at: usize, size: u32, n: u32)
-    requires { InMessage (length msg.old) at size }
-    ensures { msg.new ≡ answered at size (le 4 n) msg.old }
-{
-    put_u32(msg, at + Tag::WORD, 0x8000_0004);
-    let value = at + Message::TAG;
-    let end = value + size as usize;
-    store_word(&mut msg[value..end], n);
-}
-
-// Answers the tag with two words. It asks for the tag in the message because it writes at `at` without a look:
-// elsewhere the writes would fall on other tags, or behind the message.
-pub fn put_pair(msg: &mut [u8], at: usize, size: u32, a: u32, b: u32)
-    requires { InMessage (length msg.old) at size }
-    ensures { msg.new ≡ answered at size (two_words a b) msg.old }
-{
-    put_u32(msg, at + Tag::WORD, 0x8000_0008);
-    let value = at + Message::TAG;
-    let end = value + size as usize;
-    store_pair(&mut msg[value..end], a, b);
-}
-
-// Answers the tag with a number of 64 bits.
-pub fn put_long(msg: &mut [u8], at: usize, size: u32, n: u64)
-    requires { InMessage (length msg.old) at size }
-    ensures { msg.new ≡ answered at size (le 8 n) msg.old }
-{
-    put_u32(msg, at + Tag::WORD, 0x8000_0008);
-    let value = at + Message::TAG;
-    let end = value + size as usize;
-    store_long(&mut msg[value..end], n);
-}
 
 // Answers the tag with bytes, whose count has to fit into a tag word.
 pub fn put_bytes(msg: &mut [u8], at: usize, size: u32, bytes: &[u8])
@@ -66,4 +23,38 @@ pub fn put_bytes(msg: &mut [u8], at: usize, size: u32, bytes: &[u8])
     let value = at + Message::TAG;
     let end = value + size as usize;
     store(&mut msg[value..end], bytes);
+}
+
+// Answers the tag with no bytes, whatever the size of its value.
+pub fn put_nothing(msg: &mut [u8], at: usize)
+    requires { InMessage (length msg.old) at 0 }
+    ensures { msg.new ≡ answered at 0 [] msg.old }
+{
+    put_bytes(msg, at, 0, &[]);
+}
+
+// Answers the tag with a word.
+pub fn put_word(msg: &mut [u8], at: usize, size: u32, n: u32)
+    requires { InMessage (length msg.old) at size }
+    ensures { msg.new ≡ answered at size (le 4 n) msg.old }
+{
+    put_bytes(msg, at, size, &n.to_le_bytes());
+}
+
+// Answers the tag with two words. It asks for the tag in the message because it writes at `at` without a look:
+// elsewhere the writes would fall on other tags, or behind the message.
+pub fn put_pair(msg: &mut [u8], at: usize, size: u32, a: u32, b: u32)
+    requires { InMessage (length msg.old) at size }
+    ensures { msg.new ≡ answered at size (two_words a b) msg.old }
+{
+    let words = [a.to_le_bytes(), b.to_le_bytes()];
+    put_bytes(msg, at, size, words.as_flattened());
+}
+
+// Answers the tag with a number of 64 bits.
+pub fn put_long(msg: &mut [u8], at: usize, size: u32, n: u64)
+    requires { InMessage (length msg.old) at size }
+    ensures { msg.new ≡ answered at size (le 8 n) msg.old }
+{
+    put_bytes(msg, at, size, &n.to_le_bytes());
 }

@@ -7,11 +7,11 @@ ghost use Rattle.words.specs.Round.{round_up};
 pub fn one_bit(a: u32) -> bool
     ensures { result ≡ one_bit a }
 {
-    u32::count_ones(a) == 1
+    a.count_ones() == 1
 }
 
 // A word that has exactly one bit set.
-#[derive(Clone, Copy, Drop)]
+#[derive(Clone, Copy)]
 pub struct Alignment {
     pub value: u32,
     pub ghost one_bit: { one_bit value ≡ true },

@@ -1,32 +1,18 @@
--- Answers as bytes, and their store.
+-- Answers written into their tags.
 use mathlib.Core.List.{List, []}
-use mathlib.Core.Path.{◌≡◌, refl, sym, ap, ◌∙◌}
+use mathlib.Core.Path.{◌≡◌, sym, ap, ◌∙◌}
 use Prim.Native.Nat.{ℕ, ◌+◌, ◌-◌, ◌≤◌}
 use native.Mathlib.Omega.{arith}
 use borrow.Rule.Slice.PartMut.{put_mid}
-use lib.ListN.{length, take, drop, replicate, length-take, length-replicate}
+use lib.ListN.{length, take, drop, length-take}
 use lib.Seq.{take-nil}
-use Rattle.words.proofs.Laws.Numbers.{length_le}
-use Rattle.words.proofs.Laws.Parts.{over_all, put_mid_part}
-use Rattle.words.proofs.Laws.Put.{put_nil, put_behind, put_apart}
+use Rattle.words.proofs.Laws.Parts.{put_mid_part}
+use Rattle.words.proofs.Laws.Put.{put_nil, put_apart}
 use Rattle.words.specs.Numbers.{le}
 use Rattle.words.specs.Put.{over, put}
 use Rattle.message.specs.Sizes.{tag_header}
 use Rattle.message.specs.Walk.{word_place}
-use Rattle.answers.specs.Answer.{two_words}
 use Rattle.answers.specs.Writing.{answered}
-
--- ---- numbers made in an array of their own, and stored
-pub store_by : (k n : ℕ) (m : List ℕ) {bytes m' : List ℕ} → bytes ≡ put 0 (le k n) (replicate k 0) → m' ≡ over bytes m → m' ≡ over (le k n) m
-store_by k n m eb e = e ∙ ap (λ (l : List ℕ). over l m) (eb ∙ over_all (le k n) (replicate k 0) (length_le k n ∙ sym (length-replicate k 0)))
-
-pub pair_of : (a b : ℕ) (m : List ℕ) {m₁ m₂ : List ℕ} → m₁ ≡ put 0 (le 4 a) m → m₂ ≡ put 4 (le 4 b) m₁ → m₂ ≡ over (two_words a b) m
-pair_of a b m e f = f ∙ ap (put 4 (le 4 b)) e ∙ put_behind 0 4 (le 4 a) (le 4 b) m refl
-
--- two words made in an array of their own
-pub pair_by : (a b : ℕ) (m : List ℕ) {b₁ b₂ m' : List ℕ} → b₁ ≡ put 0 (le 4 a) (replicate 8 0) → b₂ ≡ put 4 (le 4 b) b₁ → m' ≡ over b₂ m
-    → m' ≡ over (two_words a b) m
-pair_by a b m e f g = g ∙ ap (λ (l : List ℕ). over l m) (pair_of a b (replicate 8 0) e f ∙ over_all (two_words a b) (replicate 8 0) refl)
 
 -- ---- the tag word and the value's first bytes
 pub answered_is : (at size : ℕ) (bytes m : List ℕ) {n : ℕ} {m₁ part : List ℕ} → n ≡ length bytes → m₁ ≡ put (at + word_place) (le 4 (0x8000_0000 + n)) m
@@ -45,9 +31,6 @@ unfolding answered
 answered_word_alone at size m =
     let m₁ = put (at + word_place) (le 4 0x8000_0000) m in
     ap (λ (bs : List ℕ). put (at + tag_header) bs m₁) (take-nil size) ∙ put_nil (at + tag_header) m₁
-
-pub answered_none : (at size : ℕ) (m : List ℕ) {m' : List ℕ} → m' ≡ put (at + word_place) (le 4 0x8000_0000) m → m' ≡ answered at size [] m
-answered_none at size m e = e ∙ sym (answered_word_alone at size m)
 
 -- whatever the size of the value
 pub none_sized : (at size size' : ℕ) (m : List ℕ) → answered at size [] m ≡ answered at size' [] m

@@ -33,10 +33,6 @@ unfolding one_bit
 one_bit_least zero e = absurd (false≢true e)
 one_bit_least (suc a) e = zero-lt-suc a
 
-pub one_bit_one : one_bit 1 ≡ true
-unfolding one_bit ones_in
-one_bit_one = refl
-
 module _ (a b : ℕ) (p : 0 < a) where
   pub up_above : b ≤ round_up a b
   up_above = omega (arith, div-add-mod' (b + (a - 1)) a, mod-lt (b + (a - 1)) p)
@@ -58,7 +54,7 @@ module _ (a b : ℕ) (p : 0 < a) where
       let s : b + (a - 1) < suc k * a = omega (arith, suc-mul k a) in
       omega (arith, mul-le-mul_right a (le_of_suc-le-suc ((div-lt_iff_lt-mul p).1 s)))
 
-  -- a multiple at or above b and below the next but one is the lowest
+  -- a multiple at or above b, by less than a, is the lowest
   pub up_is : (r : ℕ) → b ≤ r → r < b + a → r % a ≡ 0 → r ≡ round_up a b
   up_is r l m z =
       let d = div-add-mod' r a in
