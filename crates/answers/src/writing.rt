@@ -1,7 +1,7 @@
 // The answer of a tag, written into its message: the tag word, and the value's first bytes. A small answer
 // is a number or two, a long one a part of the record.
 //
-// No entry points: each asks that the tag at `at`, whose value has `size` bytes, lies in the message, as the walk
+// No entry points: each asks that the tag lies in the message, as the walk
 // above has found it. Then its word and its value are there to be written, and nothing is left to refuse.
 ghost use Rattle.std.specs.Prelude.{[], ◌≡◌, ◌^◌, ◌<◌, length};
 ghost use Rattle.words.specs.Numbers.{le};
@@ -15,46 +15,46 @@ use words::bytes::store;
 use words::numbers::put_u32;
 
 // Answers the tag with bytes, whose count has to fit into a tag word.
-pub fn put_bytes(msg: &mut [u8], at: usize, size: u32, bytes: &[u8])
-    requires { (InMessage (length msg.old) at size) × (length bytes.now < 2 ^ 31) }
-    ensures { msg.new ≡ answered at size bytes.now msg.old }
+pub fn put_bytes(msg: &mut [u8], tag: Tag, bytes: &[u8])
+    requires { (InMessage (length msg.old) tag.at tag.size) × (length bytes.now < 2 ^ 31) }
+    ensures { msg.new ≡ answered tag.at tag.size bytes.now msg.old }
 {
-    put_u32(msg, at + Tag::WORD, 0x8000_0000 + bytes.len() as u32);
-    let value = at + Message::TAG;
-    let end = value + size as usize;
+    put_u32(msg, tag.at + Tag::WORD, 0x8000_0000 + bytes.len() as u32);
+    let value = tag.at + Message::TAG;
+    let end = value + tag.size as usize;
     store(&mut msg[value..end], bytes);
 }
 
 // Answers the tag with no bytes, whatever the size of its value.
-pub fn put_nothing(msg: &mut [u8], at: usize)
-    requires { InMessage (length msg.old) at 0 }
-    ensures { msg.new ≡ answered at 0 [] msg.old }
+pub fn put_nothing(msg: &mut [u8], tag: Tag)
+    requires { InMessage (length msg.old) tag.at 0 }
+    ensures { msg.new ≡ answered tag.at 0 [] msg.old }
 {
-    put_bytes(msg, at, 0, &[]);
+    put_bytes(msg, Tag { size: 0, ..tag }, &[]);
 }
 
 // Answers the tag with a word.
-pub fn put_word(msg: &mut [u8], at: usize, size: u32, n: u32)
-    requires { InMessage (length msg.old) at size }
-    ensures { msg.new ≡ answered at size (le 4 n) msg.old }
+pub fn put_word(msg: &mut [u8], tag: Tag, n: u32)
+    requires { InMessage (length msg.old) tag.at tag.size }
+    ensures { msg.new ≡ answered tag.at tag.size (le 4 n) msg.old }
 {
-    put_bytes(msg, at, size, &n.to_le_bytes());
+    put_bytes(msg, tag, &n.to_le_bytes());
 }
 
-// Answers the tag with two words. It asks for the tag in the message because it writes at `at` without a look:
+// Answers the tag with two words. It asks for the tag in the message because it writes at its place without a look:
 // elsewhere the writes would fall on other tags, or behind the message.
-pub fn put_pair(msg: &mut [u8], at: usize, size: u32, a: u32, b: u32)
-    requires { InMessage (length msg.old) at size }
-    ensures { msg.new ≡ answered at size (two_words a b) msg.old }
+pub fn put_pair(msg: &mut [u8], tag: Tag, a: u32, b: u32)
+    requires { InMessage (length msg.old) tag.at tag.size }
+    ensures { msg.new ≡ answered tag.at tag.size (two_words a b) msg.old }
 {
     let words = [a.to_le_bytes(), b.to_le_bytes()];
-    put_bytes(msg, at, size, words.as_flattened());
+    put_bytes(msg, tag, words.as_flattened());
 }
 
 // Answers the tag with a number of 64 bits.
-pub fn put_long(msg: &mut [u8], at: usize, size: u32, n: u64)
-    requires { InMessage (length msg.old) at size }
-    ensures { msg.new ≡ answered at size (le 8 n) msg.old }
+pub fn put_long(msg: &mut [u8], tag: Tag, n: u64)
+    requires { InMessage (length msg.old) tag.at tag.size }
+    ensures { msg.new ≡ answered tag.at tag.size (le 8 n) msg.old }
 {
-    put_bytes(msg, at, size, &n.to_le_bytes());
+    put_bytes(msg, tag, &n.to_le_bytes());
 }
