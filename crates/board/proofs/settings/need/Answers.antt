@@ -1,4 +1,4 @@
-use native.Mathlib.Omega.{arith}
+use Rattle.std.proofs.Common.{arith}
 use Rattle.board.proofs.Laws.Display.{need_most}
 use Rattle.board.specs.Display.{need}
 use Rattle.board.proofs.settings.need.Goals as goal
