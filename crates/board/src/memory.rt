@@ -48,16 +48,7 @@ pub fn are_apart(base: u64, size: u32, t: Span) -> bool
     requires { base < 0x10_0000_0000 }
     ensures { result ≡ apart (span base size) t }
 {
-    if base + size as u64 <= t.base as u64 {
-        return true;
-    }
-    if end(t) <= base {
-        return true;
-    }
-    if size == 0 {
-        return true;
-    }
-    t.size == 0
+    base + size as u64 <= t.base as u64 || end(t) <= base || size == 0 || t.size == 0
 }
 
 // The bytes of a block.
@@ -75,8 +66,5 @@ pub fn is_clear_of(base: u64, size: u32, b: Block) -> bool
     requires { base < 0x10_0000_0000 }
     ensures { result ≡ clear_of (span base size) b }
 {
-    if b.taken {
-        return are_apart(base, size, bytes_of(b));
-    }
-    true
+    !b.taken || are_apart(base, size, bytes_of(b))
 }

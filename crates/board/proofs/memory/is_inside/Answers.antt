@@ -1,11 +1,11 @@
-use Rattle.board.proofs.Laws.Memory.{inside_rest}
+use Rattle.std.proofs.Common.{rules}
 use Rattle.board.specs.Memory.{inside}
-use Rattle.words.proofs.Laws.Cases.{cases}
 use Rattle.board.proofs.memory.is_inside.Goals as goal
 
 pub returns-then-outer-inner : goal.returns-then-outer-inner
-returns-then-outer-inner c = search inside_rest
+unfolding inside
+returns-then-outer-inner c = search rules
 
 pub returns-else-outer-inner : goal.returns-else-outer-inner
 unfolding inside
-returns-else-outer-inner c = search cases
+returns-else-outer-inner c = search rules

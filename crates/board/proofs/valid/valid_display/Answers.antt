@@ -1,15 +1,15 @@
-use mathlib.Core.Path.{sym, ◌∙◌}
-use Rattle.board.proofs.Laws.Display.{supported_is, display_over, display_unsupported, display_buffer}
+use Rattle.std.proofs.Common.{rules}
+use Rattle.board.specs.Display.{valid_display}
+use Rattle.board.proofs.Laws.Display.{supported_is}
 use Rattle.board.proofs.valid.valid_display.Goals as goal
 
-pub returns-then-end-ge4294967296 : goal.returns-then-end-ge4294967296
-returns-then-end-ge4294967296 c = search display_over
-
 pub need-requires : goal.need-requires
-need-requires c = (supported_is _ _ (sym c.is_supported.ensures ∙ c.if-is_supported.true)).0
+need-requires c = search (rules, supported_is)
 
 pub returns-then-is_supported : goal.returns-then-is_supported
-returns-then-is_supported c = search display_buffer
+unfolding valid_display
+returns-then-is_supported c = search rules
 
-pub returns : goal.returns
-returns c = search display_unsupported
+pub returns-else-is_supported : goal.returns-else-is_supported
+unfolding valid_display
+returns-else-is_supported c = search rules
