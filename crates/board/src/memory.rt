@@ -4,9 +4,9 @@ ghost use Rattle.board.specs.Memory.{span, inside, apart, no_block, bytes_of, cl
 
 use crate::facts::Span;
 
-// A block, where the place is taken. Where it is free the rest says nothing.
+// A block, where the place is taken. Where it is free, as by default, the rest says nothing.
 #[repr(C)]
-#[derive(Clone, Copy)]
+#[derive(Clone, Copy, Default)]
 pub struct Block {
     pub taken: bool,
     pub locked: bool,
@@ -20,14 +20,7 @@ pub struct Block {
 pub fn no_block() -> Block
     ensures { result ≡ no_block }
 {
-    Block {
-        taken: false,
-        locked: false,
-        base: 0,
-        size: 0,
-        alignment: 0,
-        flags: 0,
-    }
+    Block::default()
 }
 
 // The place behind a run of memory.
