@@ -1,12 +1,12 @@
 // GPU memory: the places for blocks of the heap, and runs of memory.
-ghost use Rattle.std.specs.Prelude.{◌≡◌, ◌+◌, ◌<◌};
-ghost use Rattle.board.specs.Memory.{span, inside, apart, no_block, bytes_of, clear_of};
+ghost use Rattle.std.specs.Prelude.{◌≡◌, ◌<◌};
+ghost use Rattle.board.specs.Memory.{span, apart, bytes_of, clear_of};
 
 use crate::facts::Span;
 
-// A block, where the place is taken. Where it is free the rest says nothing.
+// A block, where the place is taken. Where it is free, as by default, the rest says nothing.
 #[repr(C)]
-#[derive(Clone, Copy)]
+#[derive(Clone, Copy, Default)]
 pub struct Block {
     pub taken: bool,
     pub locked: bool,
@@ -16,31 +16,16 @@ pub struct Block {
     pub flags: u32,
 }
 
-// A place that is free.
-pub fn no_block() -> Block
-    ensures { result ≡ no_block }
-{
-    Block {
-        taken: false,
-        locked: false,
-        base: 0,
-        size: 0,
-        alignment: 0,
-        flags: 0,
+impl Block {
+    // Its bytes, where it is taken.
+    pub fn bytes(self) -> Span
+        ensures { result ≡ bytes_of self }
+    {
+        Span {
+            base: self.base,
+            size: self.size,
+        }
     }
-}
-
-// The place behind a run of memory.
-pub fn end(s: Span) -> u64
-    ensures { (result ≡ s.base + s.size) × (result < 0x2_0000_0000) }
-{
-    s.base as u64 + s.size as u64
-}
-
-pub fn is_inside(outer: Span, inner: Span) -> bool
-    ensures { result ≡ inside outer inner }
-{
-    outer.base <= inner.base && end(inner) <= end(outer)
 }
 
 // Whether two runs of memory share no byte; the first may begin behind 2^32. No entry point: for a base below 2^36.
@@ -48,26 +33,7 @@ pub fn are_apart(base: u64, size: u32, t: Span) -> bool
     requires { base < 0x10_0000_0000 }
     ensures { result ≡ apart (span base size) t }
 {
-    if base + size as u64 <= t.base as u64 {
-        return true;
-    }
-    if end(t) <= base {
-        return true;
-    }
-    if size == 0 {
-        return true;
-    }
-    t.size == 0
-}
-
-// The bytes of a block.
-pub fn bytes_of(b: Block) -> Span
-    ensures { result ≡ bytes_of b }
-{
-    Span {
-        base: b.base,
-        size: b.size,
-    }
+    base + size as u64 <= t.base as u64 || t.end() <= base || size == 0 || t.size == 0
 }
 
 // Whether a run of memory has no byte of the block at a place. No entry point: for a base below 2^36.
@@ -75,8 +41,5 @@ pub fn is_clear_of(base: u64, size: u32, b: Block) -> bool
     requires { base < 0x10_0000_0000 }
     ensures { result ≡ clear_of (span base size) b }
 {
-    if b.taken {
-        return are_apart(base, size, bytes_of(b));
-    }
-    true
+    !b.taken || are_apart(base, size, b.bytes())
 }

@@ -8,7 +8,6 @@ use crate::operation::Operation;
 use crate::valid::ValidDisplay;
 use board::display::{Display, Settings};
 use board::facts::Span;
-use board::memory::end;
 use board::settings::PossibleSettings;
 use words::align::Alignment;
 
@@ -29,12 +28,6 @@ pub struct Decision {
 struct Buffers {
     placed: Span,
     standing: Span,
-}
-
-fn no_buffer() -> Span
-    ensures { result ≡ nowhere }
-{
-    Span { base: 0, size: 0 }
 }
 
 // The settings that an operation proposes, where they are supported.
@@ -61,7 +54,7 @@ fn place(d: ValidDisplay, alignment: u32, proposal: PossibleSettings) -> Option<
     let alignment = Alignment::new(alignment)?;
     let base = alignment.lowest_multiple(region.base as u64);
     let size = proposal.need();
-    if end(region) < base + size as u64 {
+    if region.end() < base + size as u64 {
         return None;
     }
     Some(Span {
@@ -97,7 +90,7 @@ fn buffers_of(d: ValidDisplay, o: Operation, proposal: PossibleSettings) -> Opti
     if !fits_buffer(d, o, proposal) {
         return None;
     }
-    let placed = no_buffer();
+    let placed = Span::default();
     let standing = if o.releases { placed } else { d.display.buffer };
     Some(Buffers { placed, standing })
 }
@@ -110,7 +103,7 @@ fn show(s: PossibleSettings, d: Display) -> Decision
         accepted: false,
         shown: s.settings,
         pitch: s.pitch(),
-        placed: no_buffer(),
+        placed: Span::default(),
         display: d,
     }
 }

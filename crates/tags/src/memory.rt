@@ -9,7 +9,7 @@ ghost use Rattle.tags.specs.Raised.{raised_over, Raised};
 
 use crate::place::{Place, place_of};
 use board::facts::Span;
-use board::memory::{Block, bytes_of, end, is_clear_of, no_block};
+use board::memory::{Block, is_clear_of};
 use table::kinds::HandleTag;
 use words::align::{lowest_multiple, one_bit};
 
@@ -43,7 +43,7 @@ fn raised_over(b: Block, address: u64, size: u32, alignment: u32) -> u64
     if is_clear_of(address, size, b) {
         return address;
     }
-    lowest_multiple(end(bytes_of(b)), alignment)
+    lowest_multiple(b.bytes().end(), alignment)
 }
 
 // What a look at every place finds: the lowest handle whose place is free, 0 where all are taken; and the address,
@@ -93,7 +93,7 @@ pub fn allocate(
     if !one_bit(alignment) {
         return Allocation::Refused;
     }
-    let last = end(heap);
+    let last = heap.end();
     let mut a = lowest_multiple(heap.base as u64, alignment);
     while a + size as u64 <= last {
         let found = scan_places(blocks, a, size, alignment);
@@ -131,7 +131,7 @@ pub fn handle_after(b: Block, tag: HandleTag) -> Block
         return match tag {
             HandleTag::Lock => with_lock(b, true),
             HandleTag::Unlock => with_lock(b, false),
-            HandleTag::Release => no_block(),
+            HandleTag::Release => Block::default(),
         };
     }
     b

@@ -11,7 +11,7 @@ use crate::place::Place;
 use crate::power::{absent_device, device_place, power_value};
 use crate::voltage::{absent_voltage, voltage_place, voltage_value};
 use answers::writing::{put_pair, put_word};
-use board::memory::no_block;
+use board::memory::Block;
 use table::kinds::OutsideTag;
 
 // The place of the item that a tag names. A fact and an allocate have no id and the temperature answers every id:
@@ -50,6 +50,6 @@ pub fn put_absent(msg: &mut [u8], at: usize, size: u32, tag: OutsideTag, id: u32
         }
         OutsideTag::Temperature(_) => put_pair(msg, at, size, id, 0),
         OutsideTag::Allocate => put_pair(msg, at, size, id, 0),
-        OutsideTag::Handle(kind) => put_word(msg, at, size, handle_value(no_block(), kind)),
+        OutsideTag::Handle(kind) => put_word(msg, at, size, handle_value(Block::default(), kind)),
     }
 }

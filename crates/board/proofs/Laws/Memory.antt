@@ -5,21 +5,14 @@ use mathlib.Core.Path.{◌≡◌, refl, sym, ap, ◌∙◌}
 use Prim.Native.Nat.{ℕ, ◌+◌, ◌^◌, ◌≤◌, ◌<◌}
 use native.Mathlib.Decide.{ℕ_discrete, dec_le}
 use native.Mathlib.Omega.{arith}
-use borrow.Author.Tests.{eq-eqb, ne_eqb, le-leb, lt-leb, ltb-true, lt-ltb, le-ltb, not-true, not-false}
+use borrow.Author.Tests.{eq-eqb, ne_eqb, le-leb, lt-leb, ltb-true}
 use lib.Dec.{eqb, leb, ltb}
 use lib.ListN.{length, get_or, set, get_or-eq_default}
 use Rattle.words.proofs.Laws.Every.{every_set, every_from, pairs_set}
-use Rattle.words.specs.Align.{one_bit, aligned}
 use Rattle.words.specs.Every.{every, pairs}
-use Rattle.board.specs.Memory.{span, inside, apart, no_block, bytes_of, clear_of, valid_heap, valid_block, disjoint, valid_memory}
+use Rattle.board.specs.Memory.{apart, no_block, bytes_of, clear_of, valid_heap, valid_block, disjoint, valid_memory}
 use Rattle.board.specs.declared.facts.Span.{Span}
 use Rattle.board.specs.declared.memory.Block.{Block}
-
--- ---- inside
-module _ (outer inner : Span) where
-  pub inside_rest : outer.base ≤ inner.base → {e f : ℕ} → e ≡ inner.base + inner.size → f ≡ outer.base + outer.size → leb e f ≡ inside outer inner
-  unfolding inside
-  inside_rest l ee ef = rw (ee, ef, le-leb _ _ l)
 
 -- ---- runs of memory that meet
 pub record Meets (s t : Span) : Type 0 where
@@ -91,51 +84,6 @@ module _ (s t : Span) where
       go m (yes l) = let k = m.behind in let q = m.filled' in h t.base (l, k) (omega arith, omega arith)
       go m (no l) = let k = m.before in let q = m.filled in h s.base (omega arith, omega arith) (omega arith, k)
 
--- ---- two runs, as the code tests them
-module _ (base size : ℕ) (t : Span) where
-  pub apart_before : base + size ≤ t.base → true ≡ apart (span base size) t
-  apart_before l = sym (meets_not (span base size) t (λ m. let h = m.behind in absurd (omega arith)))
-
-  pub apart_behind : {e : ℕ} → e ≡ t.base + t.size → e ≤ base → true ≡ apart (span base size) t
-  apart_behind ee l = sym (meets_not (span base size) t (λ m. let h = m.before in absurd (omega arith)))
-
-  pub apart_empty : size ≡ 0 → true ≡ apart (span base size) t
-  apart_empty z = sym (meets_not (span base size) t (λ m. let h = m.filled in absurd (omega arith)))
-
-  pub apart_rest : t.base < base + size → {e : ℕ} → e ≡ t.base + t.size → base < e → (size ≡ 0 → ⊥) → eqb t.size 0 ≡ apart (span base size) t
-  apart_rest l ee k n = go (ℕ_discrete t.size 0)
-    where
-      go : Dec (t.size ≡ 0) → eqb t.size 0 ≡ apart (span base size) t
-      go (yes z) = rw (eq-eqb t.size 0 z) (sym (meets_not (span base size) t (λ m. let h = m.filled' in absurd (omega arith))))
-      go (no n') =
-          rw (ne_eqb t.size 0 n')
-          (sym (meets_is (span base size) t (record { filled = omega arith; filled' = omega arith; behind = l; before = omega arith })))
-
--- ---- a block, as the code tests it
-module _ (heap : Span) (b : Block) where
-  pub block_free : not b.taken ≡ true → true ≡ valid_block heap b
-  unfolding valid_block
-  block_free e = rw e
-
-  module _ (t : not b.taken ≡ false) where
-    pub block_empty : b.size ≡ 0 → false ≡ valid_block heap b
-    unfolding valid_block
-    block_empty z = rw (t, le-ltb 0 b.size (omega arith))
-
-    module _ (n : b.size ≡ 0 → ⊥) {s : Span} (es : s ≡ bytes_of b) {i : Bool} (ei : i ≡ inside heap s) where
-      pub block_outside : not i ≡ true → false ≡ valid_block heap b
-      unfolding valid_block
-      block_outside e = rw (t, lt-ltb 0 b.size (omega arith), ← es, ← ei, not-true i e)
-
-      module _ (e : not i ≡ false) {o : Bool} (eo : o ≡ one_bit b.alignment) where
-        pub block_odd : o ≡ false → false ≡ valid_block heap b
-        unfolding valid_block
-        block_odd f = rw (t, lt-ltb 0 b.size (omega arith), ← es, ← ei, not-false i e, ← eo, f)
-
-        pub block_aligned : o ≡ true → {g : Bool} → g ≡ aligned b.alignment b.base → g ≡ valid_block heap b
-        unfolding valid_block
-        block_aligned f eg = rw (t, lt-ltb 0 b.size (omega arith), ← es, ← ei, not-false i e, ← eo, f) eg
-
 -- ---- blocks that are disjoint
 taken_swap : (s t x : Bool) → (not s || (not t || x)) ≡ (not t || (not s || x))
 taken_swap true true x = refl
@@ -179,10 +127,6 @@ taken_below blocks i e = go (dec_le (length blocks) i)
     go (no n) = omega arith
 
 -- ---- a valid heap
-pub heap_rest : (heap : Span) → 0 < heap.base → {e : ℕ} → e ≡ heap.base + heap.size → ltb e (2 ^ 32) ≡ valid_heap heap
-unfolding valid_heap
-heap_rest heap l ee = rw (ee, lt-ltb _ _ l)
-
 pub record HeapFacts (heap : Span) : Type 0 where
   pub first : 0 < heap.base
   pub last : heap.base + heap.size < 2 ^ 32

@@ -1,14 +1,11 @@
-use Rattle.board.proofs.Laws.Memory.{apart_before, apart_behind, apart_empty, apart_rest}
+use Rattle.std.proofs.Common.{rules}
+use Rattle.board.specs.Memory.{apart}
 use Rattle.board.proofs.memory.are_apart.Goals as goal
 
-pub returns-then-base-size : goal.returns-then-base-size
-returns-then-base-size c = search apart_before
-
-pub returns-then-end-base : goal.returns-then-end-base
-returns-then-end-base c = search apart_behind
-
 pub returns-then-size-eq0 : goal.returns-then-size-eq0
-returns-then-size-eq0 c = search apart_empty
+unfolding apart
+returns-then-size-eq0 c = search rules
 
-pub returns : goal.returns
-returns c = search apart_rest
+pub returns-else-size-eq0 : goal.returns-else-size-eq0
+unfolding apart
+returns-else-size-eq0 c = search rules

@@ -1,10 +1,11 @@
+use Rattle.std.proofs.Common.{rules}
 use Rattle.board.specs.Memory.{clear_of}
 use Rattle.board.proofs.memory.is_clear_of.Goals as goal
 
-pub returns-then-b : goal.returns-then-b
+pub returns-then-not-b : goal.returns-then-not-b
 unfolding clear_of
-returns-then-b c = rw (c.if-b.true, ← c.bytes_of.ensures) c.are_apart.ensures
+returns-then-not-b c = search rules
 
-pub returns : goal.returns
+pub returns-else-not-b : goal.returns-else-not-b
 unfolding clear_of
-returns c = rw c.if-b.false
+returns-else-not-b c = search rules

@@ -1,10 +1,10 @@
-use Prim.Native.Nat.{◌+◌, ◌-◌, ◌*◌}
-use Rattle.words.proofs.Laws.Every.{PairsPassing}
-use Rattle.board.specs.Memory.{no_block, disjoint}
+use Rattle.std.proofs.Common.{◌≡◌, length}
+use Rattle.words.specs.Every.{pairs}
+use Rattle.board.specs.Memory.{disjoint}
 use Rattle.board.proofs.valid.all_disjoint.Given as goal
 
-abbrev pub invariant-loop-i : goal.invariant-loop-i
-invariant-loop-i l = PairsPassing disjoint no_block 32 l.blocks l.i l.j
+abbrev pub invariant-loop-b : goal.invariant-loop-b
+invariant-loop-b l = pairs disjoint l.fn.blocks ≡ pairs disjoint l.rest
 
-abbrev pub decreases-loop-i : goal.decreases-loop-i
-decreases-loop-i l = 64 * (32 - l.i) + (33 - l.j)
+abbrev pub decreases-loop-b : goal.decreases-loop-b
+decreases-loop-b l = length l.rest

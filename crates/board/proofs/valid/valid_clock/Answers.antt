@@ -1,8 +1,19 @@
+use Rattle.std.proofs.Common.{rules}
 use Rattle.board.specs.Items.{valid_clock}
 use Rattle.board.proofs.valid.valid_clock.Goals as goal
 
-pub returns : goal.returns
+pub returns-then-not-c : goal.returns-then-not-c
 unfolding valid_clock
-returns c =
-    rw (c.both.ensures, c.either.ensures, c.valid_state.ensures, c.both-kept.ensures)
-    (rw (c.at_most-2.ensures, c.at_most.ensures))
+returns-then-not-c c = search rules
+
+pub returns-then-c : goal.returns-then-c
+unfolding valid_clock
+returns-then-c c = search rules
+
+pub returns-else-c : goal.returns-else-c
+unfolding valid_clock
+returns-else-c c = search rules
+
+pub returns-else-valid_state : goal.returns-else-valid_state
+unfolding valid_clock
+returns-else-valid_state c = search rules

@@ -1,8 +1,15 @@
+use Rattle.std.proofs.Common.{rules}
 use Rattle.board.specs.Items.{valid_voltage}
 use Rattle.board.proofs.valid.valid_voltage.Goals as goal
 
-pub returns : goal.returns
+pub returns-then-not-v : goal.returns-then-not-v
 unfolding valid_voltage
-returns c =
-    rw (c.either.ensures, c.both.ensures, c.at_most-3.ensures, c.both-kept.ensures)
-    (rw (c.at_most-2.ensures, c.at_most.ensures))
+returns-then-not-v c = search rules
+
+pub returns-then-v-2 : goal.returns-then-v-2
+unfolding valid_voltage
+returns-then-v-2 c = search rules
+
+pub returns-else-v-2 : goal.returns-else-v-2
+unfolding valid_voltage
+returns-else-v-2 c = search rules

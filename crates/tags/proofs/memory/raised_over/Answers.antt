@@ -12,7 +12,7 @@ pub returns : goal.returns
 returns c =
     let e = c.lowest_multiple.ensures in
     let k = c.end.ensures.1 in (
-      raised_behind _ _ _ _ c.is_clear_of.ensures c.if-is_clear_of.false c.bytes_of.ensures
+      raised_behind _ _ _ _ c.is_clear_of.ensures c.if-is_clear_of.false c.bytes.ensures
           c.end.ensures.0 e,
       omega (arith, up_below c.args.alignment c.end.result (one_bit_least _ c.requires.0)),
     )
