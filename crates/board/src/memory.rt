@@ -29,6 +29,7 @@ impl Block {
 }
 
 // Whether two runs of memory share no byte; the first may begin behind 2^32. No entry point: for a base below 2^36.
+#[tactic(auto, unfolding(crate::specs::Memory::apart))]
 pub fn are_apart(base: u64, size: u32, t: Span) -> bool
     requires { base < 0x10_0000_0000 }
     ensures { result ≡ apart (span base size) t }
@@ -37,6 +38,7 @@ pub fn are_apart(base: u64, size: u32, t: Span) -> bool
 }
 
 // Whether a run of memory has no byte of the block at a place. No entry point: for a base below 2^36.
+#[tactic(auto, unfolding(crate::specs::Memory::clear_of))]
 pub fn is_clear_of(base: u64, size: u32, b: Block) -> bool
     requires { base < 0x10_0000_0000 }
     ensures { result ≡ clear_of (span base size) b }
