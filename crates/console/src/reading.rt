@@ -12,6 +12,7 @@ pub fn read_full<R: Read>(from: &mut R, bytes: &mut [u8]) -> usize
     ensures read { Consumes (R.remaining from.old) (R.remaining from.new) (take result bytes.new) }
 {
     let mut done = 0;
+    // By hand: `read_exact` does not say how many bytes came where they are too few.
     while done < bytes.len() {
         match from.read(&mut bytes[done..]) {
             Ok(n) if n > 0 => done += n,

@@ -3,7 +3,7 @@ ghost use Rattle.std.specs.Prelude.{◌≡◌, IfOk};
 
 use crate::ids;
 use board::bench::bench_record;
-use console::{print_bytes, print_number, print_text};
+use console::print_bytes;
 use message::builder;
 use message::reader::{part_or, read};
 use responder::respond::respond;
@@ -11,12 +11,10 @@ use std::io;
 use words::bytes::prefix;
 
 // The outcome of a reading, and the bytes that are shown where six others are the default.
-fn draw_or(rt: &impl Print, name: &[u8], message: &[u8], id: u32, wanted: usize) -> io::Result<()> {
+fn draw_or(rt: &impl Print, name: &str, message: &[u8], id: u32, wanted: usize) -> io::Result<()> {
     let default = [1, 2, 3, 4, 5, 6];
     let reading = read(message, id, 0, wanted);
-    print_text(rt, name)?;
-    print_number(rt, b": outcome ", reading.outcome as u64)?;
-    print_text(rt, b" shows")?;
+    print!(rt; "{name}: outcome {} shows", reading.outcome)?;
     print_bytes(rt, part_or(message, id, 0, wanted, &default))
 }
 
@@ -31,17 +29,17 @@ fn build_request(buffer: &mut [u8]) {
 fn draw_reply(rt: &impl Print, reply: &[u8]) -> io::Result<()> {
     draw_or(
         rt,
-        b"MAC address in 4 bytes, 4 wanted",
+        "MAC address in 4 bytes, 4 wanted",
         reply,
         ids::MAC_ADDRESS,
         4,
     )?;
-    draw_or(rt, b"5 wanted", reply, ids::MAC_ADDRESS, 5)?;
-    draw_or(rt, b"6 wanted", reply, ids::MAC_ADDRESS, 6)?;
-    draw_or(rt, b"0 wanted", reply, ids::MAC_ADDRESS, 0)?;
-    draw_or(rt, b"no such tag", reply, ids::SERIAL, 4)?;
-    draw_or(rt, b"not answered", reply, ids::UNKNOWN, 0)?;
-    draw_or(rt, b"lent 11", prefix(reply, 11), ids::MAC_ADDRESS, 4)
+    draw_or(rt, "5 wanted", reply, ids::MAC_ADDRESS, 5)?;
+    draw_or(rt, "6 wanted", reply, ids::MAC_ADDRESS, 6)?;
+    draw_or(rt, "0 wanted", reply, ids::MAC_ADDRESS, 0)?;
+    draw_or(rt, "no such tag", reply, ids::SERIAL, 4)?;
+    draw_or(rt, "not answered", reply, ids::UNKNOWN, 0)?;
+    draw_or(rt, "lent 11", prefix(reply, 11), ids::MAC_ADDRESS, 4)
 }
 
 pub fn cases(rt: &impl Print) -> io::Result<()>
@@ -49,7 +47,7 @@ pub fn cases(rt: &impl Print) -> io::Result<()>
 {
     let mut lent = [0u8; 48];
     build_request(&mut lent);
-    draw_or(rt, b"MAC address not served", &lent, ids::MAC_ADDRESS, 4)?;
+    draw_or(rt, "MAC address not served", &lent, ids::MAC_ADDRESS, 4)?;
     respond(bench_record(), &mut lent);
     draw_reply(rt, &lent)
 }

@@ -3,7 +3,6 @@ ghost use Rattle.std.specs.Prelude.{◌≡◌, IfOk};
 
 use crate::{ids, lines};
 use board::bench::bench_record;
-use console::{print_number, print_text};
 use message::builder;
 use message::builder::Cursor;
 use message::reader::{Question, read_two, whole_answer};
@@ -15,6 +14,7 @@ fn add_tag(buffer: &mut [u8], cursor: Cursor, id: u32, size: u32) -> Cursor {
     builder::add(buffer, cursor, id, size, &[]).cursor
 }
 
+// A question in one line, where a literal takes five.
 fn question(id: u32, occurrence: usize, wanted: usize) -> Question {
     Question {
         id,
@@ -26,7 +26,7 @@ fn question(id: u32, occurrence: usize, wanted: usize) -> Question {
 // One kept message is asked for two tags.
 fn draw_two(
     rt: &impl Print,
-    name: &[u8],
+    name: &str,
     bytes: &[u8],
     one: Question,
     other: Question,
@@ -39,71 +39,69 @@ fn draw_two(
 // One kept message is asked for the length of an answer and for its bytes, which are counted.
 fn draw_whole(
     rt: &impl Print,
-    name: &[u8],
+    name: &str,
     bytes: &[u8],
     id: u32,
     occurrence: usize,
 ) -> io::Result<()> {
     let answer = whole_answer(bytes, id, occurrence);
-    print_text(rt, name)?;
-    print_number(rt, b": ", answer.len() as u64)?;
-    print_text(rt, b" bytes\n")
+    println!(rt; "{name}: {} bytes", answer.len())
 }
 
 // What the message shows once it is served: tags that are there once, twice and not at all.
 fn draw_readings(rt: &impl Print, bytes: &[u8]) -> io::Result<()> {
     draw_two(
         rt,
-        b"MAC address, model",
+        "MAC address, model",
         bytes,
         question(ids::MAC_ADDRESS, 0, 6),
         question(ids::MODEL, 0, 4),
     )?;
     draw_two(
         rt,
-        b"second MAC address, 4 and 6 bytes",
+        "second MAC address, 4 and 6 bytes",
         bytes,
         question(ids::MAC_ADDRESS, 1, 4),
         question(ids::MAC_ADDRESS, 1, 6),
     )?;
     draw_two(
         rt,
-        b"third MAC address, revision",
+        "third MAC address, revision",
         bytes,
         question(ids::MAC_ADDRESS, 2, 0),
         question(ids::REVISION, 0, 0),
     )?;
     draw_two(
         rt,
-        b"unknown tag, id 0",
+        "unknown tag, id 0",
         bytes,
         question(ids::UNKNOWN, 0, 0),
         question(0, 0, 0),
     )?;
-    draw_whole(rt, b"whole MAC address", bytes, ids::MAC_ADDRESS, 0)?;
-    draw_whole(rt, b"whole second MAC address", bytes, ids::MAC_ADDRESS, 1)?;
-    draw_whole(rt, b"whole unknown tag", bytes, ids::UNKNOWN, 0)
+    draw_whole(rt, "whole MAC address", bytes, ids::MAC_ADDRESS, 0)?;
+    draw_whole(rt, "whole second MAC address", bytes, ids::MAC_ADDRESS, 1)?;
+    draw_whole(rt, "whole unknown tag", bytes, ids::UNKNOWN, 0)
 }
 
 // The same of its command line, which has 51 bytes.
 fn draw_line(rt: &impl Print, bytes: &[u8]) -> io::Result<()> {
     draw_two(
         rt,
-        b"command line, 0 and 51 bytes",
+        "command line, 0 and 51 bytes",
         bytes,
         question(ids::COMMAND_LINE, 0, 0),
         question(ids::COMMAND_LINE, 0, 51),
     )?;
     draw_two(
         rt,
-        b"command line, 52 and 64 bytes",
+        "command line, 52 and 64 bytes",
         bytes,
         question(ids::COMMAND_LINE, 0, 52),
         question(ids::COMMAND_LINE, 0, 64),
     )?;
-    draw_whole(rt, b"whole command line", bytes, ids::COMMAND_LINE, 0)?;
-    print_text(rt, whole_answer(bytes, ids::COMMAND_LINE, 0))?;
-    print_text(rt, b"\n")
+    draw_whole(rt, "whole command line", bytes, ids::COMMAND_LINE, 0)?;
+    rt.write_all(whole_answer(bytes, ids::COMMAND_LINE, 0))?;
+    println!(rt)
 }
 
 // A message that asks for the MAC address with room for six bytes and for four, the model, an
@@ -118,10 +116,10 @@ pub fn cases(rt: &impl Print) -> io::Result<()>
     let model = add_tag(&mut buffer, short, ids::MODEL, 4);
     let unknown = add_tag(&mut buffer, model, ids::UNKNOWN, 0);
     let line = add_tag(&mut buffer, unknown, ids::COMMAND_LINE, 64);
-    lines::of_finished(rt, b"to be kept", builder::finish(&mut buffer, line))?;
+    lines::of_finished(rt, "to be kept", builder::finish(&mut buffer, line))?;
     draw_two(
         rt,
-        b"not served",
+        "not served",
         &buffer,
         question(ids::MAC_ADDRESS, 0, 6),
         question(ids::MODEL, 0, 4),

@@ -1,88 +1,67 @@
 // A line for each answer.
 ghost use Rattle.std.specs.Prelude.{◌≡◌, IfOk};
 
-use board::display::{Display, Size};
-use console::{print_number, print_text, print_word};
+use board::display::{Display, Settings};
 use message::builder::{Built, Finished};
 use message::lister::Listed;
 use message::reader::Reading;
 use std::io;
 
-pub fn of_listed(rt: &impl Print, name: &[u8], r: Listed) -> io::Result<()>
+pub fn of_listed(rt: &impl Print, name: &str, r: Listed) -> io::Result<()>
     ensures { IfOk result (λ u. u ≡ tt) }
 {
-    print_text(rt, name)?;
-    print_number(rt, b": outcome ", r.outcome as u64)?;
-    print_number(rt, b" place ", r.place as u64)?;
-    print_word(rt, b" id ", r.id)?;
-    print_word(rt, b" size ", r.size)?;
-    print_word(rt, b" word ", r.word)?;
-    print_number(rt, b" value at ", r.value as u64)?;
-    print_text(rt, b"\n")
+    print!(rt; "{name}: outcome {} place {}", r.outcome, r.place)?;
+    print!(rt; " id {:08x} size {:08x} word {:08x}", r.id, r.size, r.word)?;
+    println!(rt; " value at {}", r.value)
 }
 
-pub fn of_reading(rt: &impl Print, name: &[u8], r: Reading) -> io::Result<()>
+pub fn of_reading(rt: &impl Print, name: &str, r: Reading) -> io::Result<()>
     ensures { IfOk result (λ u. u ≡ tt) }
 {
-    print_text(rt, name)?;
-    print_number(rt, b": outcome ", r.outcome as u64)?;
-    print_number(rt, b" place ", r.place as u64)?;
-    print_number(rt, b" length ", r.total as u64)?;
-    print_number(rt, b" value at ", r.value as u64)?;
-    print_number(rt, b" count ", r.count as u64)?;
-    print_text(rt, b"\n")
+    print!(rt; "{name}: outcome {} place {}", r.outcome, r.place)?;
+    println!(rt;
+        " length {} value at {} count {}",
+        r.total, r.value, r.count
+    )
 }
 
-pub fn of_built(rt: &impl Print, name: &[u8], r: Built) -> io::Result<()>
+pub fn of_built(rt: &impl Print, name: &str, r: Built) -> io::Result<()>
     ensures { IfOk result (λ u. u ≡ tt) }
 {
-    let cursor = r.cursor;
-    print_text(rt, name)?;
-    print_number(rt, b": outcome ", r.outcome as u64)?;
-    print_number(rt, b" place ", r.place as u64)?;
-    print_number(rt, b" cursor ", cursor.at as u64)?;
-    print_text(rt, b"\n")
+    print!(rt; "{name}: outcome {} place {}", r.outcome, r.place)?;
+    println!(rt; " cursor {}", r.cursor.at)
 }
 
-pub fn of_finished(rt: &impl Print, name: &[u8], r: Finished) -> io::Result<()>
+pub fn of_finished(rt: &impl Print, name: &str, r: Finished) -> io::Result<()>
     ensures { IfOk result (λ u. u ≡ tt) }
 {
-    print_text(rt, name)?;
-    print_number(rt, b": outcome ", r.outcome as u64)?;
-    print_number(rt, b" place ", r.place as u64)?;
-    print_number(rt, b" size ", r.size as u64)?;
-    print_text(rt, b"\n")
+    print!(rt; "{name}: outcome {} place {}", r.outcome, r.place)?;
+    println!(rt; " size {}", r.size)
 }
 
+// The name of a message that is served may come from the input, and need not be text.
 pub fn of_served(rt: &impl Print, name: &[u8], outcome: u32, place: usize) -> io::Result<()>
     ensures { IfOk result (λ u. u ≡ tt) }
 {
-    print_text(rt, name)?;
-    print_number(rt, b": outcome ", outcome as u64)?;
-    print_number(rt, b" place ", place as u64)?;
-    print_text(rt, b"\n")
-}
-
-fn of_size(rt: &impl Print, name: &[u8], size: Size) -> io::Result<()> {
-    print_number(rt, name, size.width as u64)?;
-    print_number(rt, b" x ", size.height as u64)
+    rt.write_all(name)?;
+    println!(rt; ": outcome {outcome} place {place}")
 }
 
 // The settings, and the buffer's base and size.
 pub fn of_display(rt: &impl Print, d: Display) -> io::Result<()>
     ensures { IfOk result (λ u. u ≡ tt) }
 {
-    let settings = d.settings;
-    let offset = settings.offset;
-    let buffer = d.buffer;
-    of_size(rt, b"physical ", settings.physical)?;
-    of_size(rt, b" virtual ", settings.logical)?;
-    print_number(rt, b" offset ", offset.x as u64)?;
-    print_number(rt, b", ", offset.y as u64)?;
-    print_number(rt, b" depth ", settings.depth as u64)?;
-    print_number(rt, b" order ", settings.order as u64)?;
-    print_number(rt, b" alpha ", settings.alpha as u64)?;
-    print_word(rt, b" buffer ", buffer.base)?;
-    print_word(rt, b" ", buffer.size)?;
-    print_text(rt, b"\n")
+    let Settings {
+        physical,
+        logical,
+        offset,
+        depth,
+        order,
+        alpha,
+    } = d.settings;
+    print!(rt; "physical {} x {}", physical.width, physical.height)?;
+    print!(rt; " virtual {} x {}", logical.width, logical.height)?;
+    print!(rt; " offset {}, {}", offset.x, offset.y)?;
+    print!(rt; " depth {depth} order {order} alpha {alpha}")?;
+    println!(rt; " buffer {:08x} {:08x}", d.buffer.base, d.buffer.size)
 }

@@ -10,22 +10,23 @@ use responder::respond::respond;
 
 // Serves the bytes of a file in place, and gives the outcome. More bytes than a message may have
 // stay as they are.
+#[tactic(auto, unfolding(crate::specs::Filed::filed))]
 pub fn serve_bytes(bytes: &mut [u8]) -> u32
     ensures { leaves bytes.new result ≡ filed bytes.old }
 {
     if Message::MAX < bytes.len() {
         return outcome::BAD_SIZE;
     }
-    let served = respond(bench_record(), bytes);
-    served.outcome
+    respond(bench_record(), bytes).outcome
 }
 
 // Whether the bytes can have changed under this outcome: all was done, or a fault cut it short.
+#[tactic(auto, unfolding(crate::specs::Filed::rewrites))]
 pub fn is_rewritten(outcome: u32) -> bool
     ensures { result ≡ rewrites outcome }
 {
-    if outcome == outcome::DONE {
-        return true;
-    }
-    outcome::NO_END <= outcome && outcome <= outcome::SHORT_REQUEST
+    matches!(
+        outcome,
+        outcome::DONE | outcome::NO_END..=outcome::SHORT_REQUEST
+    )
 }

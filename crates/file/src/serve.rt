@@ -6,28 +6,16 @@ use console::failure::fail;
 use console::reading::read_full;
 use message::opening::Message;
 use std::fs::{OpenFile, OpenOptions};
-use std::io;
 use std::io::{ErrorKind, Read, Write};
 use std::rt::Files;
+use std::{fs, io};
 
 // A path as text: no other can be opened.
 fn as_text(path: &[u8]) -> io::Result<&str> {
-    match str::from_utf8(path) {
-        Ok(text) => Ok(text),
-        Err(_) => Err(io::Error::new(ErrorKind::InvalidFilename, "the file name is not UTF-8")),
-    }
-}
-
-fn open_read<R: Files>(rt: &R, path: &[u8]) -> io::Result<R::File> {
-    OpenOptions::new().read(true).open(rt, as_text(path)?)
-}
-
-// Opens for reading and writing, and leaves the file's bytes as they are.
-fn open_update<R: Files>(rt: &R, path: &[u8]) -> io::Result<R::File> {
-    OpenOptions::new()
-        .read(true)
-        .write(true)
-        .open(rt, as_text(path)?)
+    str::from_utf8(path).map_err(|_| io::Error::new(
+        ErrorKind::InvalidFilename,
+        "the file name is not UTF-8",
+    ))
 }
 
 // Fails unless the whole file has been read: nothing follows, and no read fails.
@@ -57,8 +45,8 @@ fn check_written(file: &impl OpenFile) -> io::Result<()> {
 
 // Writes the bytes over the file's own, as many as it has. The file is never emptied, so that no
 // failure leaves it shorter.
-fn write_back<R: Files>(rt: &R, path: &[u8], bytes: &[u8]) -> io::Result<()> {
-    let mut file = open_update(rt, path)?;
+fn write_back(rt: &impl Files, path: &str, bytes: &[u8]) -> io::Result<()> {
+    let mut file = OpenOptions::new().read(true).write(true).open(rt, path)?;
     file.write_all(bytes)?;
     check_written(&file)
 }
@@ -69,30 +57,27 @@ fn print_line(rt: &(impl Print + Eprint), n: u32) {
     }
 }
 
-// Serves the bytes that were read, writes them back where they can have changed, and prints the
+// Serves the bytes that were read, writes them back where they can have changed, and gives the
 // outcome.
-fn serve_read<R: Files + Print + Eprint>(rt: &R, path: &[u8], bytes: &mut [u8]) {
+fn serve_read(rt: &impl Files, path: &str, bytes: &mut [u8]) -> io::Result<u32> {
     let outcome = serve_bytes(bytes);
     if is_rewritten(outcome) {
-        if let Err(error) = write_back(rt, path, bytes) {
-            fail(rt, path, error);
-            return;
-        }
+        write_back(rt, path, bytes)?;
     }
-    print_line(rt, outcome);
+    Ok(outcome)
 }
 
-// Reads the file no further than shows that it is above the most bytes of a message.
-fn serve_open<R: Files + Print + Eprint>(rt: &R, path: &[u8], file: &mut R::File) {
+// Serves the file, and gives the outcome. It is read no further than shows that it is above the most
+// bytes of a message.
+fn serve_path(rt: &impl Files, path: &[u8]) -> io::Result<u32> {
+    let path = as_text(path)?;
+    let mut file = fs::open(rt, path)?;
     let mut buffer = [0u8; Message::MAX + 1];
-    let n = read_full(file, &mut buffer);
+    let n = read_full(&mut file, &mut buffer);
     if n <= Message::MAX {
-        if let Err(error) = check_end(file) {
-            fail(rt, path, error);
-            return;
-        }
+        check_end(&mut file)?;
     }
-    serve_read(rt, path, &mut buffer[..n]);
+    serve_read(rt, path, &mut buffer[..n])
 }
 
 // Serves a message file on the bench record, writes it back in place, and prints the outcome as a
@@ -101,8 +86,8 @@ fn serve_open<R: Files + Print + Eprint>(rt: &R, path: &[u8], file: &mut R::File
 pub fn serve_file<R: Files + Print + Eprint>(rt: &R, path: &[u8])
     ensures { result ≡ tt }
 {
-    match open_read(rt, path) {
-        Ok(mut file) => serve_open(rt, path, &mut file),
+    match serve_path(rt, path) {
+        Ok(outcome) => print_line(rt, outcome),
         Err(error) => fail(rt, path, error),
     }
 }

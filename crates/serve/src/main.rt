@@ -10,6 +10,7 @@ use std::io::Error;
 const NAME_TOO_LONG: i32 = 36;
 
 fn main(rt: HostRuntime) {
+    // By hand: no heap, and `env::args` makes strings.
     let mut path = [0u8; 4096];
     match rt.arg(1, &mut path) {
         Ok(n) => serve_file(&rt, &path[..n]),

@@ -2,8 +2,8 @@
 #![tactic(auto)]
 
 use console::failure::fail;
+use console::print_words;
 use console::reading::read_full;
-use console::{print_number, print_text, print_words};
 use file::serve::serve_file;
 use std::fs::OpenOptions;
 use std::io::{Read, Write};
@@ -23,8 +23,7 @@ fn make_long(rt: &impl Files, path: &str) -> io::Result<()> {
 
 // How many bytes there are, and the words of the first 80.
 fn show_bytes(rt: &impl Print, bytes: &[u8]) -> io::Result<()> {
-    print_number(rt, b"bytes ", bytes.len() as u64)?;
-    print_text(rt, b":")?;
+    print!(rt; "bytes {}:", bytes.len())?;
     let n = bytes.len().min(80);
     print_words(rt, &bytes[..n])
 }
@@ -46,8 +45,7 @@ fn show_file(rt: &(impl Files + Print + Eprint), path: &str) -> io::Result<()> {
 }
 
 fn serve_and_show(rt: &(impl Files + Print + Eprint), path: &str) -> io::Result<()> {
-    print_text(rt, path.as_bytes())?;
-    print_text(rt, b"\n")?;
+    println!(rt; "{path}")?;
     serve_file(rt, path.as_bytes());
     show_file(rt, path)
 }

@@ -1,5 +1,6 @@
 use Rattle.std.proofs.Common.{rules, ◌-◌, length}
-use Rattle.console.proofs.Laws.Reading.{take_read, consumes_more}
+use Rattle.std.proofs.KnownBytes.{Consumes-trans}
+use Rattle.console.proofs.Laws.Reading.{take_read}
 use Rattle.console.proofs.reading.read_full.Goals as goal
 
 pub loop-done-preserved : goal.loop-done-preserved
@@ -10,5 +11,5 @@ loop-done-preserved g c =
       same = search rules;
       read =
           rw (take_read l.done (length l.bytes - l.done) _ l.bytes c.read.new.buf l.invariant.count c.in-Ok.ensures.bound.0)
-          (consumes_more _ _ _ _ _ l.invariant.read c.in-Ok.ensures.bytes.0);
+          (Consumes-trans _ _ _ _ _ l.invariant.read c.in-Ok.ensures.bytes.0);
     }
