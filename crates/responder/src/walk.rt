@@ -20,9 +20,8 @@ use requests::ask::{Ask, ask_at};
 use table::kinds::OutsideTag;
 use tags::clock::{clock_after, clock_value};
 use tags::fact::put_fact;
-use tags::memory::{Allocation, allocate, handle_after, handle_value};
+use tags::memory::{allocate, handle_after, handle_value};
 use tags::outside::{item_place, put_absent};
-use tags::place::Place;
 use tags::power::{power_after, power_value};
 use tags::temperature::temperature_value;
 use tags::voltage::{voltage_after, voltage_value};
@@ -91,8 +90,7 @@ pub fn serve_tags(board: Board, msg: &mut [u8], size: usize, group: Decision) ->
                 let request = &msg[value..end];
                 let id = nth_word(request, 0);
                 let x = nth_word(request, 1);
-                let place = item_place(outside, id);
-                let Place::At(i) = place else {
+                let Some(i) = item_place(outside, id) else {
                     // No item has this id: the answer of an absent one, and nothing changes.
                     put_absent(msg, tag.at, tag.size, outside, id);
                     p = next;
@@ -122,15 +120,14 @@ pub fn serve_tags(board: Board, msg: &mut [u8], size: usize, group: Decision) ->
                         put_pair(msg, tag.at, tag.size, id, n);
                     }
                     OutsideTag::Allocate => {
-                        let allocation = allocate(heap, b.blocks, id, x, nth_word(request, 2));
-                        let Allocation::Granted(handle, block) = allocation else {
-                            put_word(msg, tag.at, tag.size, 0);
-                            p = next;
-                            continue;
-                        };
-                        let j = (handle - 1) as usize;
-                        b.blocks[j] = block;
-                        put_word(msg, tag.at, tag.size, handle);
+                        let flags = nth_word(request, 2);
+                        match allocate(heap, &b.blocks, id, x, flags) {
+                            Some(granted) => {
+                                b.blocks[granted.handle as usize - 1] = granted.block;
+                                put_word(msg, tag.at, tag.size, granted.handle);
+                            }
+                            None => put_word(msg, tag.at, tag.size, 0),
+                        }
                     }
                     OutsideTag::Handle(kind) => {
                         let block = b.blocks[i];

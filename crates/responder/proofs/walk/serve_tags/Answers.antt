@@ -49,14 +49,14 @@ slice_bounds-request-end-in-Outside c =
 pub put_absent-requires : goal.put_absent-requires
 put_absent-requires c = serve_in _ _ _ _ _ _ _ _ c.loop-tag.invariant c.step_at-st.ensures c.in-Tag.is
 
-pub loop-tag-smaller-in_default-place : goal.loop-tag-smaller-in_default-place
-loop-tag-smaller-in_default-place c = serve_less _ _ _ _ _ _ _ _ c.loop-tag.invariant c.step_at-st.ensures c.in-Tag.is
+pub loop-tag-smaller-in_default-item_place : goal.loop-tag-smaller-in_default-item_place
+loop-tag-smaller-in_default-item_place c = serve_less _ _ _ _ _ _ _ _ c.loop-tag.invariant c.step_at-st.ensures c.in-Tag.is
 
-pub loop-tag-preserved-in_default-place : goal.loop-tag-preserved-in_default-place
-loop-tag-preserved-in_default-place c =
+pub loop-tag-preserved-in_default-item_place : goal.loop-tag-preserved-in_default-item_place
+loop-tag-preserved-in_default-item_place c =
     serve_outside _ _ _ _ _ _ _ _ c.loop-tag.invariant c.step_at-st.ensures c.in-Tag.is
     c.ask_at-ask.ensures c.in-Outside.is
-    (serves_unlisted _ _ c.nth_word-id.ensures c.nth_word-x.ensures _ c.item_place-place.ensures c.in_default-place.is)
+    (serves_unlisted _ _ c.nth_word-id.ensures c.nth_word-x.ensures _ c.item_place.ensures c.in_default-item_place.is)
     c.put_absent.ensures
 
 pub put_fact-requires : goal.put_fact-requires
@@ -82,7 +82,7 @@ pub loop-tag-preserved-in-Power : goal.loop-tag-preserved-in-Power
 loop-tag-preserved-in-Power c =
     serve_outside _ _ _ _ _ _ _ _ c.loop-tag.invariant c.step_at-st.ensures c.in-Tag.is
     c.ask_at-ask.ensures c.in-Outside.is
-    (serves_power _ _ c.nth_word-id.ensures c.nth_word-x.ensures c.item_place-place.ensures c.in-At.is c.in-Power.is
+    (serves_power _ _ c.nth_word-id.ensures c.nth_word-x.ensures c.item_place.ensures c.in-Some.is c.in-Power.is
     c.power_after-d.ensures c.power_value.ensures)
     c.put_pair.ensures
 
@@ -96,7 +96,7 @@ pub loop-tag-preserved-in-Clock : goal.loop-tag-preserved-in-Clock
 loop-tag-preserved-in-Clock c =
     serve_outside _ _ _ _ _ _ _ _ c.loop-tag.invariant c.step_at-st.ensures c.in-Tag.is
     c.ask_at-ask.ensures c.in-Outside.is
-    (serves_clock _ _ c.nth_word-id.ensures c.nth_word-x.ensures c.item_place-place.ensures c.in-At.is c.in-Clock.is
+    (serves_clock _ _ c.nth_word-id.ensures c.nth_word-x.ensures c.item_place.ensures c.in-Some.is c.in-Clock.is
     c.clock_after-c.ensures c.clock_value.ensures)
     c.put_pair-in-Clock.ensures
 
@@ -110,7 +110,7 @@ pub loop-tag-preserved-in-Voltage : goal.loop-tag-preserved-in-Voltage
 loop-tag-preserved-in-Voltage c =
     serve_outside _ _ _ _ _ _ _ _ c.loop-tag.invariant c.step_at-st.ensures c.in-Tag.is
     c.ask_at-ask.ensures c.in-Outside.is
-    (serves_voltage _ _ c.nth_word-id.ensures c.nth_word-x.ensures c.item_place-place.ensures c.in-At.is c.in-Voltage.is
+    (serves_voltage _ _ c.nth_word-id.ensures c.nth_word-x.ensures c.item_place.ensures c.in-Some.is c.in-Voltage.is
     c.voltage_after-v.ensures c.voltage_value.ensures)
     c.put_pair-in-Voltage.ensures
 
@@ -128,41 +128,41 @@ loop-tag-preserved-in-Temperature c =
     c.put_pair-in-Temperature.ensures
 
 -- ---- an allocate
+pub overflow_sub-granted : goal.overflow_sub-granted
+overflow_sub-granted c = (granted_below _ _ _ _ _ (sym c.in-Some-allocate.is ∙ c.allocate.ensures)).0
+
+pub bounds-b-granted : goal.bounds-b-granted
+bounds-b-granted c =
+    let h = granted_below _ _ _ _ _ (sym c.in-Some-allocate.is ∙ c.allocate.ensures) in
+    omega arith
+
 pub put_word-requires : goal.put_word-requires
 put_word-requires c = serve_in _ _ _ _ _ _ _ _ c.loop-tag.invariant c.step_at-st.ensures c.in-Tag.is
 
-pub loop-tag-smaller-in_default-allocation : goal.loop-tag-smaller-in_default-allocation
-loop-tag-smaller-in_default-allocation c = serve_less _ _ _ _ _ _ _ _ c.loop-tag.invariant c.step_at-st.ensures c.in-Tag.is
+pub loop-tag-smaller-in-Some-allocate : goal.loop-tag-smaller-in-Some-allocate
+loop-tag-smaller-in-Some-allocate c = serve_less _ _ _ _ _ _ _ _ c.loop-tag.invariant c.step_at-st.ensures c.in-Tag.is
 
-pub loop-tag-preserved-in_default-allocation : goal.loop-tag-preserved-in_default-allocation
-loop-tag-preserved-in_default-allocation c =
+pub loop-tag-preserved-in-Some-allocate : goal.loop-tag-preserved-in-Some-allocate
+loop-tag-preserved-in-Some-allocate c =
     serve_outside _ _ _ _ _ _ _ _ c.loop-tag.invariant c.step_at-st.ensures c.in-Tag.is
     c.ask_at-ask.ensures c.in-Outside.is
-    (serves_refused _ _ c.nth_word-id.ensures c.nth_word-x.ensures c.in-Allocate.is c.nth_word.ensures
-    c.loop-tag.invariant.heap_same c.allocate-allocation.ensures c.in_default-allocation.is)
+    (serves_granted _ _ c.nth_word-id.ensures c.nth_word-x.ensures c.in-Allocate.is c.nth_word-flags.ensures
+    c.loop-tag.invariant.heap_same c.allocate.ensures c.in-Some-allocate.is refl)
     c.put_word.ensures
 
-pub overflow_sub-j : goal.overflow_sub-j
-overflow_sub-j c = (granted_below _ _ _ _ _ (sym c.in-Granted.is ∙ c.allocate-allocation.ensures)).0
+pub put_word-requires-in-None : goal.put_word-requires-in-None
+put_word-requires-in-None c = serve_in _ _ _ _ _ _ _ _ c.loop-tag.invariant c.step_at-st.ensures c.in-Tag.is
 
-pub bounds-b-j : goal.bounds-b-j
-bounds-b-j c =
-    let h = granted_below _ _ _ _ _ (sym c.in-Granted.is ∙ c.allocate-allocation.ensures) in
-    omega arith
+pub loop-tag-smaller-in-None : goal.loop-tag-smaller-in-None
+loop-tag-smaller-in-None c = serve_less _ _ _ _ _ _ _ _ c.loop-tag.invariant c.step_at-st.ensures c.in-Tag.is
 
-pub put_word-requires-in-Allocate : goal.put_word-requires-in-Allocate
-put_word-requires-in-Allocate c = serve_in _ _ _ _ _ _ _ _ c.loop-tag.invariant c.step_at-st.ensures c.in-Tag.is
-
-pub loop-tag-smaller-in-Granted : goal.loop-tag-smaller-in-Granted
-loop-tag-smaller-in-Granted c = serve_less _ _ _ _ _ _ _ _ c.loop-tag.invariant c.step_at-st.ensures c.in-Tag.is
-
-pub loop-tag-preserved-in-Granted : goal.loop-tag-preserved-in-Granted
-loop-tag-preserved-in-Granted c =
+pub loop-tag-preserved-in-None : goal.loop-tag-preserved-in-None
+loop-tag-preserved-in-None c =
     serve_outside _ _ _ _ _ _ _ _ c.loop-tag.invariant c.step_at-st.ensures c.in-Tag.is
     c.ask_at-ask.ensures c.in-Outside.is
-    (serves_granted _ _ c.nth_word-id.ensures c.nth_word-x.ensures c.in-Allocate.is c.nth_word.ensures
-    c.loop-tag.invariant.heap_same c.allocate-allocation.ensures c.in-Granted.is refl)
-    c.put_word-in-Allocate.ensures
+    (serves_refused _ _ c.nth_word-id.ensures c.nth_word-x.ensures c.in-Allocate.is c.nth_word-flags.ensures
+    c.loop-tag.invariant.heap_same c.allocate.ensures c.in-None.is)
+    c.put_word-in-None.ensures
 
 -- ---- a tag of a handle
 pub put_word-requires-in-Handle : goal.put_word-requires-in-Handle
@@ -175,7 +175,7 @@ pub loop-tag-preserved : goal.loop-tag-preserved
 loop-tag-preserved c =
     serve_outside _ _ _ _ _ _ _ _ c.loop-tag.invariant c.step_at-st.ensures c.in-Tag.is
     c.ask_at-ask.ensures c.in-Outside.is
-    (serves_handle _ _ c.nth_word-id.ensures c.nth_word-x.ensures c.item_place-place.ensures c.in-At.is c.in-Handle.is refl
+    (serves_handle _ _ c.nth_word-id.ensures c.nth_word-x.ensures c.item_place.ensures c.in-Some.is c.in-Handle.is refl
     c.handle_after.ensures c.handle_value.ensures)
     c.put_word-in-Handle.ensures
 
