@@ -35,17 +35,6 @@ pub struct TagsServed {
     pub board: Board,
 }
 
-// The same in a line, for the walk below.
-fn tags_served(ending: Ending, operation: Operation, board: Board) -> TagsServed
-    ensures { result ≡ record { ending = ending; operation = operation; board = board } }
-{
-    TagsServed {
-        ending,
-        operation,
-        board,
-    }
-}
-
 // How a walk ends at a tag whose value is too short for its request.
 fn short_at(p: usize) -> Ending
     ensures { result ≡ record { outcome = short_request; place = p } }
@@ -64,30 +53,36 @@ pub fn serve_tags(board: Board, msg: &mut [u8], size: usize, group: Decision) ->
     ensures { leaves msg.new result ≡ walk_served group board msg.old size }
 {
     let mut b = board;
-    let display = b.display;
     // No tag changes where the heap lies.
     let heap = b.heap;
-    let mut operation = no_tag_yet(display.settings);
+    let mut operation = no_tag_yet(b.display.settings);
     let mut p = Message::HEADER;
     loop {
         let st = step_at(msg, size, p);
         let Step::Tag(tag, next) = st else {
-            return tags_served(ended(st), operation, b);
+            return TagsServed {
+                ending: ended(st),
+                operation,
+                board: b,
+            };
         };
-        let ask = ask_at(msg, tag);
         let value = tag.at + Message::TAG;
-        match ask {
+        match ask_at(msg, tag) {
             Ask::Pass => {}
-            Ask::Short => return tags_served(short_at(p), operation, b),
+            Ask::Short => {
+                return TagsServed {
+                    ending: short_at(p),
+                    operation,
+                    board: b,
+                };
+            }
             Ask::Group(frame, count) => {
-                let end = value + count;
-                let request = &msg[value..end];
+                let request = &msg[value..value + count];
                 operation = note(operation, frame, request);
                 put_group(msg, tag.at, tag.size, group, frame);
             }
             Ask::Outside(outside, count) => {
-                let end = value + count;
-                let request = &msg[value..end];
+                let request = &msg[value..value + count];
                 let id = nth_word(request, 0);
                 let x = nth_word(request, 1);
                 let Some(i) = item_place(outside, id) else {
