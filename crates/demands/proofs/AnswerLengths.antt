@@ -7,9 +7,8 @@ use lib.Dec.{eqb}
 use lib.ListN.{length, take, get_or, length-take}
 use Rattle.board.specs.declared.facts.Facts.{Facts}
 use Rattle.board.specs.declared.record.Board.{Board}
-use Rattle.table.specs.Table.{Entry, outside_tags, group_tags, table, find, row_of}
+use Rattle.table.specs.Table.{known, Entry, table, find, row_of}
 use Rattle.table.specs.declared.kinds.Kind.{Kind}
-use Rattle.table.specs.declared.rows.Row.{Row}
 use Rattle.tags.proofs.Laws.Alone.{after_facts}
 use Rattle.tags.specs.Fact.{fact_answer}
 use Rattle.tags.specs.Outside.{outside_answer}
@@ -18,7 +17,7 @@ use Rattle.display.specs.declared.decision.Decision.{Decision}
 use Rattle.requests.specs.Requests.{Request, passed, short, asks, request_of}
 use Rattle.responder.specs.Answers.{turn_of}
 use Rattle.responder.specs.Turns.{says}
-use Rattle.demands.proofs.Laws.Cuts.{has_asked, CutAt, cut_before, cut_behind, cut_none}
+use Rattle.demands.proofs.Laws.Cuts.{row_same, has_asked, CutAt, cut_before, cut_behind, cut_none}
 use Rattle.demands.proofs.Laws.TurnAt.{TurnAt, turn_of_at, answer_by, speaks, spoken, cut_there}
 use Rattle.demands.specs.AnswerLengths.{HasArrays, entry_length, length_in, AnswerLengths}
 use Rattle.demands.specs.Terms.{tag_of, trail_of, decision_of}
@@ -26,14 +25,14 @@ use Rattle.demands.specs.Terms.{tag_of, trail_of, decision_of}
 -- ---- down the table
 table_lengths : (g : Decision) (b : Board) (request : List ℕ) → HasArrays b
     → map (λ (e : Entry). length (answer_by g b e.kind request)) table ≡ map (entry_length b.facts.characters) table
-unfolding table outside_tags group_tags outside_answer fact_answer group_answer
+unfolding table outside_answer fact_answer group_answer
 table_lengths g b request a =
     let f = b.facts in
     rw (length-take 6 f.mac, a.mac, length-take f.characters (take 256 b.line), length-take 256 b.line, a.line)
 
 -- and so of the entry that is found
 found_length : (g : Decision) (b : Board) (request : List ℕ) (id : ℕ) (es : List Entry) {k : Kind} {n : ℕ}
-    → map (λ (e : Entry). length (answer_by g b e.kind request)) es ≡ map (entry_length b.facts.characters) es → find id es ≡ Row.Known k n
+    → map (λ (e : Entry). length (answer_by g b e.kind request)) es ≡ map (entry_length b.facts.characters) es → find id es ≡ known k n
     → length (answer_by g b k request) ≡ length_in b.facts.characters id es
 found_length g b request id [] q r = absurd (true≢false cc)
 found_length g b request id (e ∷ es) {k} {n} q r = go (eqb id e.id) r (λ x. found_length g b request id es later x)
@@ -44,10 +43,10 @@ found_length g b request id (e ∷ es) {k} {n} q r = go (eqb id e.id) r (λ x. f
     later : map (λ (x : Entry). length (answer_by g b x.kind request)) es ≡ map (entry_length b.facts.characters) es
     later = cc
 
-    go : (c : Bool) → cond c (Row.Known e.kind e.request) (find id es) ≡ Row.Known k n
-        → (find id es ≡ Row.Known k n → length (answer_by g b k request) ≡ length_in b.facts.characters id es)
+    go : (c : Bool) → cond c (known e.kind e.request) (find id es) ≡ known k n
+        → (find id es ≡ known k n → length (answer_by g b k request) ≡ length_in b.facts.characters id es)
         → length (answer_by g b k request) ≡ cond c (entry_length b.facts.characters e) (length_in b.facts.characters id es)
-    go true x h = let is : e.kind ≡ k = cc in rw (← is) here
+    go true x h = let is : e.kind ≡ k = (row_same x).0 in rw (← is) here
     go false x h = h x
 
 -- ---- no turn changes the facts or the command line

@@ -11,15 +11,14 @@ use Rattle.message.specs.Outcomes.{done}
 use Rattle.message.specs.Sizes.{header}
 use Rattle.message.specs.declared.walk.Tag.{Tag}
 use Rattle.board.specs.declared.record.Board.{Board}
-use Rattle.table.specs.Table.{outside_tags, group_tags, table, row_of}
+use Rattle.table.specs.Table.{known, table, row_of}
 use Rattle.table.specs.declared.kinds.Kind.{Kind}
-use Rattle.table.specs.declared.rows.Row.{Row}
 use Rattle.requests.proofs.Laws.Endings.{ending_outcome}
 use Rattle.requests.specs.Requests.{Request, passed, short, asks, value_of, request_bytes, request_of, WalkOutcome}
 use Rattle.responder.specs.Answers.{turn_of}
 use Rattle.responder.specs.Reply.{served, reply}
 use Rattle.responder.specs.Turns.{says}
-use Rattle.demands.proofs.Laws.Cuts.{has_asked, asks_unless_short, CutAt, cut_before, cut_behind, cut_none}
+use Rattle.demands.proofs.Laws.Cuts.{row_same, has_asked, asks_unless_short, CutAt, cut_before, cut_behind, cut_none}
 use Rattle.demands.proofs.Laws.Mixed.{answered_faultless, answered_unmixed, unmixed_answered}
 use Rattle.demands.proofs.Laws.TurnAt.{TurnAt, turn_of_at, Speaks, answer_by, speaks, spoken, cut_there}
 use Rattle.demands.proofs.Laws.Replied.{Replied, untouched, walked, replied, clash}
@@ -27,8 +26,8 @@ use Rattle.demands.specs.AnsweredWhen.{test_of, Answerable, AnsweredWhen}
 use Rattle.demands.specs.Terms.{no_tag, walk_of, tag_of, trail_of, decision_of, Answered, Faultless}
 
 -- no tag has the id 0
-no_row : {k : Kind} {n : ℕ} → row_of 0 ≡ Row.Known k n → ⊥
-unfolding row_of table outside_tags group_tags
+no_row : {k : Kind} {n : ℕ} → row_of 0 ≡ known k n → ⊥
+unfolding row_of table
 no_row e = true≢false cc
 
 module _ (b : Board) (m : List ℕ) (i : ℕ) where
@@ -73,7 +72,7 @@ module _ (b : Board) (m : List ℕ) (i : ℕ) where
               known = (Kind.Outside k, h.least, h.row);
               bit_clear = h.clear;
               before = stands o;
-              group = λ w. let z : Row.Known (Kind.Outside k) h.least ≡ Row.Known (Kind.Group w.0) w.1 = sym h.row ∙ w.2 in
+              group = λ w. let z : Kind.Outside k ≡ Kind.Group w.0 = (row_same (sym h.row ∙ w.2)).0 in
                   absurd (true≢false cc);
             }
         from (asks (Kind.Group k) request) e x o =
@@ -97,7 +96,7 @@ module _ (b : Board) (m : List ℕ) (i : ℕ) where
     has_says : (b' : Board) → Answerable b m t → (answer : List ℕ) × ((turn_of (decision_of b m) b' r).said ≡ says answer)
     has_says b' a = go there
       where
-        asked : (k : Kind) (n : ℕ) → row_of t.id ≡ Row.Known k n → (request : List ℕ) → r ≡ asks k request → Speaks (decision_of b m) (asks k request)
+        asked : (k : Kind) (n : ℕ) → row_of t.id ≡ known k n → (request : List ℕ) → r ≡ asks k request → Speaks (decision_of b m) (asks k request)
         asked (Kind.Outside k) n row request e = tt
         asked (Kind.Group k) n row request e =
             let g = a.group (k, n, row) in

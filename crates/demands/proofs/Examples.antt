@@ -10,7 +10,7 @@ use Rattle.board.specs.Facts.{valid_facts}
 use Rattle.board.specs.Items.{valid_state, valid_device, valid_clock, valid_voltage}
 use Rattle.board.specs.Memory.{apart, valid_heap, valid_block, disjoint, valid_memory}
 use Rattle.board.specs.Record.{valid}
-use Rattle.table.specs.Table.{outside_tags, group_tags, table, row_of}
+use Rattle.table.specs.Table.{table, row_of}
 use Rattle.answers.specs.Writing.{answered}
 use Rattle.tags.specs.Clock.{settled, clock_after, clock_value}
 use Rattle.tags.specs.Fact.{fact_answer}
@@ -26,5 +26,5 @@ use Rattle.responder.specs.Reply.{served, reply}
 use Rattle.demands.specs.Examples.{Examples, comes_out, cases}
 
 pub examples : Examples
-unfolding comes_out cases reply served valid valid_facts valid_state valid_device valid_clock valid_voltage valid_buffer valid_display valid_memory valid_heap apart valid_block disjoint supported possible sides depths offsets pitch need bench opened good_size number_at trail walk_from step overruns tag_at request_of request_by request_bytes row_of table outside_tags group_tags group_decision decided accepted allocatable fits_buffer placed_at one_bit ones_in supported_from nth_word noted with_setting turn_of outside_answer outside_after fact_answer place_of settled clock_after clock_value present group_answer answered max_offset min_offset
+unfolding comes_out cases reply served valid valid_facts valid_state valid_device valid_clock valid_voltage valid_buffer valid_display valid_memory valid_heap apart valid_block disjoint supported possible sides depths offsets pitch need bench opened good_size number_at trail walk_from step overruns tag_at request_of request_by request_bytes row_of table group_decision decided accepted allocatable fits_buffer placed_at one_bit ones_in supported_from nth_word noted with_setting turn_of outside_answer outside_after fact_answer place_of settled clock_after clock_value present group_answer answered max_offset min_offset
 examples = tt

@@ -6,6 +6,7 @@ use mathlib.Core.Path.{◌≡◌, refl, sym, ap, ◌∙◌}
 use Prim.Native.Nat.{ℕ, zero, suc, ◌≤◌, ◌<◌}
 use native.Mathlib.Omega.{arith}
 use lib.Dec.{lit≤, lit<}
+use Rattle.std.proofs.Common.{None}
 use Rattle.words.specs.Numbers.{number_at, word_bytes}
 use Rattle.message.specs.Opening.{good_size, opened}
 use Rattle.message.specs.Outcomes.{done}
@@ -14,14 +15,14 @@ use Rattle.message.specs.declared.reader.Reading.{Reading}
 use Rattle.message.specs.declared.walk.Tag.{Tag}
 use Rattle.board.proofs.Laws.Bench.{bench_valid}
 use Rattle.board.specs.Bench.{bench}
-use Rattle.table.specs.Table.{fact_kind, outside_tags, group_tags, table, row_of}
+use Rattle.table.specs.Table.{known, fact_kind, table, row_of}
 use Rattle.table.specs.declared.kinds.FactTag.{FactTag}
 use Rattle.table.specs.declared.kinds.FrameTag.{FrameTag}
 use Rattle.table.specs.declared.kinds.Kind.{Kind}
 use Rattle.table.specs.declared.kinds.Setting.{Setting}
-use Rattle.table.specs.declared.rows.Row.{Row}
 use Rattle.requests.specs.Requests.{value_of, request_bytes, request_by, request_of, trail}
 use Rattle.responder.specs.Reply.{served, reply}
+use Rattle.demands.proofs.Laws.Cuts.{row_same}
 use Rattle.demands.proofs.LongerValues.{longer_values}
 use Rattle.demands.proofs.ServedMet.{request_tag, mac_bytes, several_tags, several_done, mac_said, several_read, mac_answered}
 use Rattle.demands.specs.LongerValues.{SameRequest, ShownAlike, ServedAlike}
@@ -33,25 +34,23 @@ abbrev longer_tags : List ℕ
 longer_tags = word_bytes (88 ∷ 0 ∷ 0x00010003 ∷ 8 ∷ 0 ∷ 0 ∷ 0 ∷ 0x00099999 ∷ 8 ∷ 0 ∷ 9 ∷ 9 ∷ 0x00048005 ∷ 8 ∷ 0 ∷ 16 ∷ 5 ∷ 0x00040005 ∷ 4 ∷ 0 ∷ 0 ∷ 0 ∷ [])
 
 longer_done : (reply bench longer_tags).answer.outcome ≡ done
-unfolding reply served opened good_size number_at trail walk_from step overruns tag_at request_of request_by request_bytes row_of table outside_tags group_tags
+unfolding reply served opened good_size number_at trail walk_from step overruns tag_at request_of request_by request_bytes row_of table
 longer_done = rw bench_valid
 
 -- a tag of a known row, and one of an unknown id
-pub known_row : (m m' : List ℕ) (t t' : Tag) (k : Kind) (n : ℕ) → row_of t.id ≡ Row.Known k n
+pub known_row : (m m' : List ℕ) (t t' : Tag) (k : Kind) (n : ℕ) → row_of t.id ≡ known k n
     → request_bytes k n t.size (value_of m t) ≡ request_bytes k n t'.size (value_of m' t') → SameRequest m m' t t'
 known_row m m' t t' k n r e k' n' r' w =
-    let q : Row.Known k n ≡ Row.Known k' n' = sym r ∙ r' in
-    let ek : k ≡ k' = cc in
-    let en : n ≡ n' = cc in
-    rw (← ek, ← en) e
+    let q = row_same (sym r ∙ r') in
+    rw (← q.0, ← q.1) e
 
-unknown_row : (m m' : List ℕ) (t t' : Tag) → row_of t.id ≡ Row.Unknown → SameRequest m m' t t'
+unknown_row : (m m' : List ℕ) (t t' : Tag) → row_of t.id ≡ None → SameRequest m m' t t'
 unknown_row m m' t t' r k n r' w =
-    let q : Row.Unknown ≡ Row.Known k n = sym r ∙ r' in
+    let q : None ≡ known k n = sym r ∙ r' in
     absurd (true≢false cc)
 
 several_requests : (i : ℕ) → i < 4 → SameRequest several_tags longer_tags (tag_of several_tags i) (tag_of longer_tags i)
-unfolding number_at walk_from step overruns tag_at row_of table outside_tags group_tags request_bytes
+unfolding number_at walk_from step overruns tag_at row_of table request_bytes
 several_requests zero l = known_row several_tags longer_tags (request_tag 8 0x00010003 4) (request_tag 8 0x00010003 8) (fact_kind FactTag.Mac) 0 refl refl
 several_requests (suc zero) l = unknown_row several_tags longer_tags (request_tag 24 0x00099999 4) (request_tag 28 0x00099999 8) refl
 several_requests (suc (suc zero)) l =

@@ -22,7 +22,7 @@ use Rattle.board.specs.Items.{valid_state, valid_device, valid_clock, valid_volt
 use Rattle.board.specs.Memory.{inside, apart, no_block, bytes_of, clear_of, valid_heap, valid_block, disjoint, valid_memory}
 use Rattle.board.specs.Record.{with_blocks, valid}
 use Rattle.board.specs.declared.record.Board.{Board}
-use Rattle.table.specs.Table.{outside_tags, group_tags, table, row_of}
+use Rattle.table.specs.Table.{table, row_of}
 use Rattle.table.specs.declared.kinds.HandleTag.{HandleTag}
 use Rattle.table.specs.declared.kinds.Kind.{Kind}
 use Rattle.table.specs.declared.kinds.OutsideTag.{OutsideTag}
@@ -61,26 +61,26 @@ two_blocks =
     )
 
 blocks_done : (reply bench two_blocks).answer.outcome ≡ done
-unfolding reply served opened good_size number_at trail walk_from step overruns tag_at request_of request_by request_bytes row_of table outside_tags group_tags
+unfolding reply served opened good_size number_at trail walk_from step overruns tag_at request_of request_by request_bytes row_of table
 blocks_done = rw bench_valid
 
 blocks_answers : answers_of bench two_blocks ≡ says (le 4 1) ∷ says (le 4 2) ∷ says (le 4 0x3C800000) ∷ []
-unfolding bench number_at trail walk_from step overruns tag_at request_of request_by request_bytes row_of table outside_tags group_tags group_decision decided nth_word turn_of outside_answer outside_after one_bit ones_in aligned lowest inside apart clear_of free_handle fits_at lowest_address grants allocation place_of handle_after handle_value
+unfolding bench number_at trail walk_from step overruns tag_at request_of request_by request_bytes row_of table group_decision decided nth_word turn_of outside_answer outside_after one_bit ones_in aligned lowest inside apart clear_of free_handle fits_at lowest_address grants allocation place_of handle_after handle_value
 blocks_answers = refl
 
 blocks_trail : (trail_of two_blocks).tags ≡ request_tag 8 0x0003000c 12 ∷ request_tag 32 0x0003000c 12 ∷ request_tag 56 0x0003000d 8 ∷ []
-unfolding number_at trail walk_from step overruns tag_at request_of request_by request_bytes row_of table outside_tags group_tags
+unfolding number_at trail walk_from step overruns tag_at request_of request_by request_bytes row_of table
 blocks_trail = refl
 
 -- `Kept` and `BlocksApart`: the record afterwards has these blocks, is valid, and they share no byte
 pub blocks_first : block_at (reply bench two_blocks).answer.board 0
     ≡ record { taken = true; locked = true; base = 0x3C800000; size = 4096; alignment = 4096; flags = 7 }
-unfolding reply served opened good_size bench number_at trail walk_from step overruns tag_at request_of request_by request_bytes row_of table outside_tags group_tags group_decision decided nth_word turn_of outside_answer outside_after one_bit ones_in aligned lowest inside apart clear_of free_handle fits_at lowest_address grants allocation place_of handle_after handle_value
+unfolding reply served opened good_size bench number_at trail walk_from step overruns tag_at request_of request_by request_bytes row_of table group_decision decided nth_word turn_of outside_answer outside_after one_bit ones_in aligned lowest inside apart clear_of free_handle fits_at lowest_address grants allocation place_of handle_after handle_value
 blocks_first = rw bench_valid
 
 pub blocks_second : block_at (reply bench two_blocks).answer.board 1
     ≡ record { taken = true; locked = false; base = 0x3C801000; size = 16; alignment = 16; flags = 0 }
-unfolding reply served opened good_size bench number_at trail walk_from step overruns tag_at request_of request_by request_bytes row_of table outside_tags group_tags group_decision decided nth_word turn_of outside_answer outside_after one_bit ones_in aligned lowest inside apart clear_of free_handle fits_at lowest_address grants allocation place_of handle_after handle_value
+unfolding reply served opened good_size bench number_at trail walk_from step overruns tag_at request_of request_by request_bytes row_of table group_decision decided nth_word turn_of outside_answer outside_after one_bit ones_in aligned lowest inside apart clear_of free_handle fits_at lowest_address grants allocation place_of handle_after handle_value
 blocks_second = rw bench_valid
 
 pub two_valid : valid (reply bench two_blocks).answer.board ≡ true
@@ -112,11 +112,11 @@ blocks_longer =
     )
 
 blocks_longer_done : (reply bench blocks_longer).answer.outcome ≡ done
-unfolding reply served opened good_size number_at trail walk_from step overruns tag_at request_of request_by request_bytes row_of table outside_tags group_tags
+unfolding reply served opened good_size number_at trail walk_from step overruns tag_at request_of request_by request_bytes row_of table
 blocks_longer_done = rw bench_valid
 
 blocks_requests : (i : ℕ) → i < 3 → SameRequest two_blocks blocks_longer (tag_of two_blocks i) (tag_of blocks_longer i)
-unfolding number_at walk_from step overruns tag_at row_of table outside_tags group_tags request_bytes
+unfolding number_at walk_from step overruns tag_at row_of table request_bytes
 blocks_requests zero l =
     known_row two_blocks blocks_longer (request_tag 8 0x0003000c 12) (request_tag 8 0x0003000c 16) (Kind.Outside OutsideTag.Allocate) 12 refl refl
 blocks_requests (suc zero) l =
@@ -212,7 +212,7 @@ run_counted = bytes_held bench bench_without four_messages
 
 -- 4,096 + 16 + 64 bytes were granted, 4,096 released, and 80 are held
 pub run_counts : (granted_so_far bench four_messages ≡ 4176) × (released_so_far bench four_messages ≡ 4096)
-unfolding reply served opened good_size valid valid_facts valid_state valid_device valid_clock valid_voltage valid_buffer valid_display valid_memory valid_heap valid_block disjoint supported possible sides depths offsets pitch need bench number_at trail walk_from step overruns tag_at request_of request_by request_bytes row_of table outside_tags group_tags group_decision decided nth_word turn_of outside_answer outside_after one_bit ones_in aligned lowest inside apart clear_of free_handle fits_at lowest_address grants allocation place_of handle_after handle_value
+unfolding reply served opened good_size valid valid_facts valid_state valid_device valid_clock valid_voltage valid_buffer valid_display valid_memory valid_heap valid_block disjoint supported possible sides depths offsets pitch need bench number_at trail walk_from step overruns tag_at request_of request_by request_bytes row_of table group_decision decided nth_word turn_of outside_answer outside_after one_bit ones_in aligned lowest inside apart clear_of free_handle fits_at lowest_address grants allocation place_of handle_after handle_value
 run_counts = (refl, refl)
 
 -- ---- a record with two blocks that share the byte at 0x3C800010

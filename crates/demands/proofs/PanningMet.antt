@@ -21,7 +21,7 @@ use Rattle.board.specs.Facts.{valid_facts}
 use Rattle.board.specs.Items.{valid_state, valid_device, valid_clock, valid_voltage}
 use Rattle.board.specs.Record.{with_display, valid}
 use Rattle.board.specs.declared.record.Board.{Board}
-use Rattle.table.specs.Table.{outside_tags, group_tags, table, row_of}
+use Rattle.table.specs.Table.{table, row_of}
 use Rattle.table.specs.declared.kinds.FrameTag.{FrameTag}
 use Rattle.table.specs.declared.kinds.Kind.{Kind}
 use Rattle.table.specs.declared.kinds.Setting.{Setting}
@@ -50,20 +50,20 @@ abbrev panned_down : List ℕ
 panned_down = word_bytes (56 ∷ 0 ∷ 0x00048004 ∷ 8 ∷ 0 ∷ 800 ∷ 960 ∷ 0x00048009 ∷ 12 ∷ 0 ∷ 0 ∷ 480 ∷ 7 ∷ 0 ∷ [])
 
 panned_done : (reply bench panned_down).answer.outcome ≡ done
-unfolding reply served opened good_size number_at trail walk_from step overruns tag_at request_of request_by request_bytes row_of table outside_tags group_tags
+unfolding reply served opened good_size number_at trail walk_from step overruns tag_at request_of request_by request_bytes row_of table
 panned_done = rw bench_valid
 
 panned_answers : answers_of bench panned_down ≡ says (two_words 800 960) ∷ says (two_words 0 480) ∷ []
-unfolding bench number_at trail walk_from step overruns tag_at request_of request_by request_bytes row_of table outside_tags group_tags group_decision decided accepted allocatable fits_buffer placed_at one_bit ones_in supported_from nth_word noted with_setting turn_of group_answer supported possible sides depths offsets pitch need
+unfolding bench number_at trail walk_from step overruns tag_at request_of request_by request_bytes row_of table group_decision decided accepted allocatable fits_buffer placed_at one_bit ones_in supported_from nth_word noted with_setting turn_of group_answer supported possible sides depths offsets pitch need
 panned_answers = refl
 
 panned_trail : (trail_of panned_down).tags ≡ request_tag 8 0x00048004 8 ∷ request_tag 28 0x00048009 12 ∷ []
-unfolding number_at trail walk_from step overruns tag_at request_of request_by request_bytes row_of table outside_tags group_tags
+unfolding number_at trail walk_from step overruns tag_at request_of request_by request_bytes row_of table
 panned_trail = refl
 
 -- `Kept` and `PanningKept`: the record afterwards has this offset, and is valid
 pub panned_offset : (reply bench panned_down).answer.board.display.settings.offset ≡ record { x = 0; y = 480 }
-unfolding reply served opened good_size bench number_at trail walk_from step overruns tag_at request_of request_by request_bytes row_of table outside_tags group_tags group_decision decided accepted allocatable fits_buffer placed_at one_bit ones_in supported_from nth_word noted with_setting turn_of group_answer supported possible sides depths offsets pitch need
+unfolding reply served opened good_size bench number_at trail walk_from step overruns tag_at request_of request_by request_bytes row_of table group_decision decided accepted allocatable fits_buffer placed_at one_bit ones_in supported_from nth_word noted with_setting turn_of group_answer supported possible sides depths offsets pitch need
 panned_offset = rw bench_valid
 
 pub panned_valid : valid (reply bench panned_down).answer.board ≡ true
@@ -87,11 +87,11 @@ abbrev panned_longer : List ℕ
 panned_longer = word_bytes (64 ∷ 0 ∷ 0x00048004 ∷ 12 ∷ 0 ∷ 800 ∷ 960 ∷ 5 ∷ 0x00048009 ∷ 16 ∷ 0 ∷ 0 ∷ 480 ∷ 9 ∷ 9 ∷ 0 ∷ [])
 
 panned_longer_done : (reply bench panned_longer).answer.outcome ≡ done
-unfolding reply served opened good_size number_at trail walk_from step overruns tag_at request_of request_by request_bytes row_of table outside_tags group_tags
+unfolding reply served opened good_size number_at trail walk_from step overruns tag_at request_of request_by request_bytes row_of table
 panned_longer_done = rw bench_valid
 
 panned_requests : (i : ℕ) → i < 2 → SameRequest panned_down panned_longer (tag_of panned_down i) (tag_of panned_longer i)
-unfolding number_at walk_from step overruns tag_at row_of table outside_tags group_tags request_bytes
+unfolding number_at walk_from step overruns tag_at row_of table request_bytes
 panned_requests zero l =
     known_row panned_down panned_longer (request_tag 8 0x00048004 8) (request_tag 8 0x00048004 12) (Kind.Group (FrameTag.Set Setting.Virtual)) 8 refl refl
 panned_requests (suc zero) l =

@@ -24,7 +24,7 @@ use Rattle.board.specs.Facts.{valid_facts}
 use Rattle.board.specs.Items.{valid_state, valid_device}
 use Rattle.board.specs.Record.{with_devices, with_display, valid}
 use Rattle.board.specs.declared.record.Board.{Board}
-use Rattle.table.specs.Table.{fact_kind, outside_tags, group_tags, table, row_of}
+use Rattle.table.specs.Table.{fact_kind, table, row_of}
 use Rattle.table.specs.declared.kinds.FactTag.{FactTag}
 use Rattle.table.specs.declared.kinds.FrameTag.{FrameTag}
 use Rattle.table.specs.declared.kinds.Kind.{Kind}
@@ -37,6 +37,7 @@ use Rattle.requests.specs.Requests.{passed, asks, request_bytes, request_by, req
 use Rattle.responder.specs.Answers.{group_decision, turn_of}
 use Rattle.responder.specs.Reply.{served, reply}
 use Rattle.responder.specs.Turns.{Said, silent, says}
+use Rattle.demands.proofs.Laws.Cuts.{row_same}
 use Rattle.demands.proofs.AnswerLengths.{answer_lengths}
 use Rattle.demands.proofs.AnsweredWhen.{answered_when}
 use Rattle.demands.proofs.Changes.{numbered, changes, same_length, refusals}
@@ -59,7 +60,7 @@ abbrev pub several_tags : List ℕ
 several_tags = word_bytes (76 ∷ 0 ∷ 0x00010003 ∷ 4 ∷ 0 ∷ 0 ∷ 0x00099999 ∷ 4 ∷ 0 ∷ 7 ∷ 0x00048005 ∷ 4 ∷ 0 ∷ 16 ∷ 0x00040005 ∷ 4 ∷ 0 ∷ 0 ∷ 0 ∷ [])
 
 pub several_done : (reply bench several_tags).answer.outcome ≡ done
-unfolding reply served opened good_size number_at trail walk_from step overruns tag_at request_of request_by request_bytes row_of table outside_tags group_tags
+unfolding reply served opened good_size number_at trail walk_from step overruns tag_at request_of request_by request_bytes row_of table
 several_done = rw bench_valid
 
 -- the MAC address, the set and the get are answered, and the unknown tag is silent
@@ -68,7 +69,7 @@ mac_bytes = 0xB8 ∷ 0x27 ∷ 0xEB ∷ 0x4D ∷ 0x91 ∷ 0xF6 ∷ []
 
 several_answers : answers_of bench several_tags
     ≡ says mac_bytes ∷ silent ∷ says (16 ∷ 0 ∷ 0 ∷ 0 ∷ []) ∷ says (16 ∷ 0 ∷ 0 ∷ 0 ∷ []) ∷ []
-unfolding bench number_at trail walk_from step overruns tag_at request_of request_by request_bytes row_of table outside_tags group_tags group_decision decided accepted allocatable fits_buffer placed_at one_bit ones_in supported_from nth_word noted with_setting turn_of outside_answer outside_after fact_answer group_answer supported possible sides depths offsets pitch need
+unfolding bench number_at trail walk_from step overruns tag_at request_of request_by request_bytes row_of table group_decision decided accepted allocatable fits_buffer placed_at one_bit ones_in supported_from nth_word noted with_setting turn_of outside_answer outside_after fact_answer group_answer supported possible sides depths offsets pitch need
 several_answers = refl
 
 pub mac_said : said_at bench several_tags 0 ≡ says mac_bytes
@@ -76,7 +77,7 @@ mac_said = ap (λ (ss : List Said). get_or ss 0 silent) several_answers
 
 several_trail : (trail_of several_tags).tags
     ≡ request_tag 8 0x00010003 4 ∷ request_tag 24 0x00099999 4 ∷ request_tag 40 0x00048005 4 ∷ request_tag 56 0x00040005 4 ∷ []
-unfolding number_at trail walk_from step overruns tag_at request_of request_by request_bytes row_of table outside_tags group_tags
+unfolding number_at trail walk_from step overruns tag_at request_of request_by request_bytes row_of table
 several_trail = refl
 
 -- `Kept`: the record that it leaves is valid
@@ -117,17 +118,17 @@ mac_length = answer_lengths bench several_tags bench_arrays 0 mac_bytes mac_said
 
 -- `AnsweredWhen`: the MAC address is answered, by what the rule asks; the unknown tag is not
 pub mac_answered : Answered bench several_tags 0
-unfolding number_at walk_from step overruns tag_at row_of table outside_tags group_tags
+unfolding number_at walk_from step overruns tag_at row_of table
 mac_answered =
     (answered_when bench several_tags 0).1 (record {
       known = (fact_kind FactTag.Mac, 0, refl);
       bit_clear = lit< tt;
       before = inl several_done;
-      group = λ w. absurd (true≢false cc);
+      group = λ w. let z : fact_kind FactTag.Mac ≡ Kind.Group w.0 = (row_same {n = 0} w.2).0 in absurd (true≢false cc);
     })
 
 pub unknown_silent : Answered bench several_tags 1 → ⊥
-unfolding number_at walk_from step overruns tag_at row_of table outside_tags group_tags
+unfolding number_at walk_from step overruns tag_at row_of table
 unknown_silent a = let k = ((answered_when bench several_tags 1).0 a).known in let e = k.2 in true≢false cc
 
 -- ---- release, set depth 7, on a record with a buffer: the operation is refused
@@ -146,12 +147,12 @@ abbrev pub release_refused : List ℕ
 release_refused = word_bytes (40 ∷ 0 ∷ 0x00048001 ∷ 0 ∷ 0 ∷ 0x00048005 ∷ 4 ∷ 0 ∷ 7 ∷ 0 ∷ [])
 
 refused_done : (reply standing_buffer release_refused).answer.outcome ≡ done
-unfolding reply served opened good_size number_at trail walk_from step overruns tag_at request_of request_by request_bytes row_of table outside_tags group_tags
+unfolding reply served opened good_size number_at trail walk_from step overruns tag_at request_of request_by request_bytes row_of table
 refused_done = rw standing_valid
 
 refused_asks : (trail_of release_refused).requests
     ≡ asks (Kind.Group FrameTag.Release) [] ∷ asks (Kind.Group (FrameTag.Set Setting.Depth)) (7 ∷ 0 ∷ 0 ∷ 0 ∷ []) ∷ []
-unfolding number_at trail walk_from step overruns tag_at request_of request_by request_bytes row_of table outside_tags group_tags
+unfolding number_at trail walk_from step overruns tag_at request_of request_by request_bytes row_of table
 refused_asks = refl
 
 refused_apart : Mixes release_refused → ⊥
@@ -166,7 +167,7 @@ refused_apart x = go x.0.0 (rw refused_asks at x.0.1)
 
 -- the release is answered, with no bytes, and the record stays as it was
 pub release_answered : Answered standing_buffer release_refused 0
-unfolding number_at walk_from step overruns tag_at row_of table outside_tags group_tags
+unfolding number_at walk_from step overruns tag_at row_of table
 release_answered =
     (answered_when standing_buffer release_refused 0).1 (record {
       known = (Kind.Group FrameTag.Release, 0, refl);
@@ -176,7 +177,7 @@ release_answered =
     })
 
 pub release_left : (said_at standing_buffer release_refused 0 ≡ says []) × ((reply standing_buffer release_refused).answer.board ≡ standing_buffer)
-unfolding reply served opened good_size bench number_at trail walk_from step overruns tag_at request_of request_by request_bytes row_of table outside_tags group_tags group_decision decided accepted allocatable fits_buffer placed_at one_bit ones_in supported_from nth_word noted with_setting turn_of group_answer supported possible sides depths offsets pitch need
+unfolding reply served opened good_size bench number_at trail walk_from step overruns tag_at request_of request_by request_bytes row_of table group_decision decided accepted allocatable fits_buffer placed_at one_bit ones_in supported_from nth_word noted with_setting turn_of group_answer supported possible sides depths offsets pitch need
 release_left = (refl, rw standing_valid)
 
 -- ---- test depth, set depth: mixed, and neither is answered
@@ -184,13 +185,13 @@ abbrev pub test_beside_set : List ℕ
 test_beside_set = word_bytes (44 ∷ 0 ∷ 0x00044005 ∷ 4 ∷ 0 ∷ 16 ∷ 0x00048005 ∷ 4 ∷ 0 ∷ 16 ∷ 0 ∷ [])
 
 pub mixed_silent : Answered bench test_beside_set 1 → ⊥
-unfolding number_at trail walk_from step overruns tag_at request_of request_by request_bytes row_of table outside_tags group_tags
+unfolding number_at trail walk_from step overruns tag_at request_of request_by request_bytes row_of table
 mixed_silent a =
     (((answered_when bench test_beside_set 1).0 a).group (FrameTag.Set Setting.Depth, 4, refl)).1 ((0, refl), (1, refl))
 
 -- `DisplayKept`: so the depth stays
 pub mixed_kept : (reply bench test_beside_set).answer.board.display ≡ bench.display
-unfolding number_at trail walk_from step overruns tag_at request_of request_by request_bytes row_of table outside_tags group_tags
+unfolding number_at trail walk_from step overruns tag_at request_of request_by request_bytes row_of table
 mixed_kept = display_stays bench test_beside_set (inr (inl ((0, refl), (1, refl))))
 
 -- ---- `Numbered` and `Refusals`: eleven bytes; a size of 14; a code word of 1; a record with an absent device that is on

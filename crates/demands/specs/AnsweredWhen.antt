@@ -3,21 +3,20 @@
 use Rattle.std.specs.Prelude.{Bool, true, false, List, ◌⊎◌, ◌↔◌, ◌≡◌, ℕ, ◌<◌, get_or}
 use Rattle.message.specs.declared.walk.Tag.{Tag}
 use Rattle.board.specs.declared.record.Board.{Board}
-use Rattle.table.specs.Table.{row_of}
+use Rattle.table.specs.Table.{known, row_of}
 use Rattle.table.specs.declared.kinds.FrameTag.{FrameTag}
 use Rattle.table.specs.declared.kinds.Kind.{Kind}
-use Rattle.table.specs.declared.rows.Row.{Row}
 use Rattle.requests.specs.Requests.{Request, passed, short, asks}
 use Rattle.responder.specs.Reply.{reply}
 use Rattle.demands.specs.Terms.{tag_of, trail_of, Answered, Faultless}
 
 -- the id is known
 abbrev pub IsKnown : (id : ℕ) → Type 0
-IsKnown id = (kind : Kind) × (least : ℕ) × (row_of id ≡ Row.Known kind least)
+IsKnown id = (kind : Kind) × (least : ℕ) × (row_of id ≡ known kind least)
 
 -- the id is one of the group
 abbrev pub OfGroup : (id : ℕ) → Type 0
-OfGroup id = (tag : FrameTag) × (least : ℕ) × (row_of id ≡ Row.Known (Kind.Group tag) least)
+OfGroup id = (tag : FrameTag) × (least : ℕ) × (row_of id ≡ known (Kind.Group tag) least)
 
 -- a tag of the group is a test
 abbrev pub test_of : FrameTag → Bool

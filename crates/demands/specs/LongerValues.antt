@@ -5,9 +5,8 @@ use Rattle.message.specs.Reader.{stored}
 use Rattle.message.specs.declared.reader.Reading.{Reading}
 use Rattle.message.specs.declared.walk.Tag.{Tag}
 use Rattle.board.specs.declared.record.Board.{Board}
-use Rattle.table.specs.Table.{row_of}
+use Rattle.table.specs.Table.{known, row_of}
 use Rattle.table.specs.declared.kinds.Kind.{Kind}
-use Rattle.table.specs.declared.rows.Row.{Row}
 use Rattle.requests.specs.Requests.{value_of, request_bytes}
 use Rattle.responder.specs.Reply.{reply}
 use Rattle.demands.specs.ReadingBack.{reading_of, sought}
@@ -26,7 +25,7 @@ tag_words m = map (λ t. t.word) (walk_of m).tags
 abbrev pub SameRequest : (m m' : List ℕ) (t t' : Tag) → Type 0
 SameRequest m m' t t' =
     (kind : Kind) (least : ℕ)
-    → row_of t.id ≡ Row.Known kind least
+    → row_of t.id ≡ known kind least
     → t.word < 0x8000_0000
     → request_bytes kind least t.size (value_of m t) ≡ request_bytes kind least t'.size (value_of m' t')
 

@@ -1,5 +1,5 @@
 -- What the tags of a message ask for. A request has its bytes, and no size of a value buffer in it.
-use Rattle.std.specs.Prelude.{Bool, true, false, cond, List, [], ◌∷◌, ◌⊎◌, ◌≡◌, ℕ, ◌+◌, ltb, take, drop}
+use Rattle.std.specs.Prelude.{Bool, true, false, cond, List, [], ◌∷◌, ◌⊎◌, ◌≡◌, ℕ, ◌+◌, ltb, take, drop, Option, Some, None}
 use Rattle.message.specs.Outcomes.{done, no_end, runs_over, short_request}
 use Rattle.message.specs.Reader.{is_answered}
 use Rattle.message.specs.Sizes.{tag_header}
@@ -26,11 +26,11 @@ request_bytes kind least size value = take least value
 
 -- a tag that came with bit 31 of its word set, or with an unknown id: passed over; bits 0 to 30 of a request's
 -- word are ignored
-unfoldable pub request_by : (answered : Bool) → Row → (size : ℕ) → List ℕ → Request
+unfoldable pub request_by : (answered : Bool) → Option Row → (size : ℕ) → List ℕ → Request
 request_by true row size value = passed
-request_by false Row.Unknown size value = passed
-request_by false (Row.Known kind least) size value =
-    cond (ltb size least) short (asks kind (request_bytes kind least size value))
+request_by false None size value = passed
+request_by false (Some row) size value =
+    cond (ltb size row.request) short (asks row.kind (request_bytes row.kind row.request size value))
 
 unfoldable pub request_of : List ℕ → Tag → Request
 request_of m t = request_by (is_answered t) (row_of t.id) t.size (value_of m t)

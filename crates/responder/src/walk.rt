@@ -20,9 +20,8 @@ use requests::ask::{Ask, ask_at};
 use table::kinds::OutsideTag;
 use tags::clock::{clock_after, clock_value};
 use tags::fact::put_fact;
-use tags::memory::{Allocation, allocate, handle_after, handle_value};
+use tags::memory::{allocate, handle_after, handle_value};
 use tags::outside::{item_place, put_absent};
-use tags::place::Place;
 use tags::power::{power_after, power_value};
 use tags::temperature::temperature_value;
 use tags::voltage::{voltage_after, voltage_value};
@@ -34,17 +33,6 @@ pub struct TagsServed {
     pub ending: Ending,
     pub operation: Operation,
     pub board: Board,
-}
-
-// The same in a line, for the walk below.
-fn tags_served(ending: Ending, operation: Operation, board: Board) -> TagsServed
-    ensures { result ≡ record { ending = ending; operation = operation; board = board } }
-{
-    TagsServed {
-        ending,
-        operation,
-        board,
-    }
 }
 
 // How a walk ends at a tag whose value is too short for its request.
@@ -65,34 +53,39 @@ pub fn serve_tags(board: Board, msg: &mut [u8], size: usize, group: Decision) ->
     ensures { leaves msg.new result ≡ walk_served group board msg.old size }
 {
     let mut b = board;
-    let display = b.display;
     // No tag changes where the heap lies.
     let heap = b.heap;
-    let mut operation = no_tag_yet(display.settings);
+    let mut operation = no_tag_yet(b.display.settings);
     let mut p = Message::HEADER;
     loop {
         let st = step_at(msg, size, p);
         let Step::Tag(tag, next) = st else {
-            return tags_served(ended(st), operation, b);
+            return TagsServed {
+                ending: ended(st),
+                operation,
+                board: b,
+            };
         };
-        let ask = ask_at(msg, tag);
         let value = tag.at + Message::TAG;
-        match ask {
+        match ask_at(msg, tag) {
             Ask::Pass => {}
-            Ask::Short => return tags_served(short_at(p), operation, b),
+            Ask::Short => {
+                return TagsServed {
+                    ending: short_at(p),
+                    operation,
+                    board: b,
+                };
+            }
             Ask::Group(frame, count) => {
-                let end = value + count;
-                let request = &msg[value..end];
+                let request = &msg[value..value + count];
                 operation = note(operation, frame, request);
                 put_group(msg, tag.at, tag.size, group, frame);
             }
             Ask::Outside(outside, count) => {
-                let end = value + count;
-                let request = &msg[value..end];
+                let request = &msg[value..value + count];
                 let id = nth_word(request, 0);
                 let x = nth_word(request, 1);
-                let place = item_place(outside, id);
-                let Place::At(i) = place else {
+                let Some(i) = item_place(outside, id) else {
                     // No item has this id: the answer of an absent one, and nothing changes.
                     put_absent(msg, tag.at, tag.size, outside, id);
                     p = next;
@@ -122,15 +115,14 @@ pub fn serve_tags(board: Board, msg: &mut [u8], size: usize, group: Decision) ->
                         put_pair(msg, tag.at, tag.size, id, n);
                     }
                     OutsideTag::Allocate => {
-                        let allocation = allocate(heap, b.blocks, id, x, nth_word(request, 2));
-                        let Allocation::Granted(handle, block) = allocation else {
-                            put_word(msg, tag.at, tag.size, 0);
-                            p = next;
-                            continue;
-                        };
-                        let j = (handle - 1) as usize;
-                        b.blocks[j] = block;
-                        put_word(msg, tag.at, tag.size, handle);
+                        let flags = nth_word(request, 2);
+                        match allocate(heap, &b.blocks, id, x, flags) {
+                            Some(granted) => {
+                                b.blocks[granted.handle as usize - 1] = granted.block;
+                                put_word(msg, tag.at, tag.size, granted.handle);
+                            }
+                            None => put_word(msg, tag.at, tag.size, 0),
+                        }
                     }
                     OutsideTag::Handle(kind) => {
                         let block = b.blocks[i];

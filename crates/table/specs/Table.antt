@@ -1,5 +1,5 @@
 -- The table of known tags.
-use Rattle.std.specs.Prelude.{cond, List, [], ◌∷◌, ◌++◌, ℕ, eqb}
+use Rattle.std.specs.Prelude.{cond, List, [], ◌∷◌, ◌++◌, ℕ, eqb, Option, Some, None}
 use Rattle.table.specs.declared.kinds.ClockTag.{ClockTag}
 use Rattle.table.specs.declared.kinds.FactTag.{FactTag}
 use Rattle.table.specs.declared.kinds.FrameTag.{FrameTag}
@@ -42,7 +42,7 @@ abbrev pub handle_kind : HandleTag → Kind
 handle_kind t = Kind.Outside (OutsideTag.Handle t)
 
 -- The command line's answer has its own length, 256 at most.
-unfoldable pub outside_tags : List Entry
+abbrev pub outside_tags : List Entry
 outside_tags =
     -- fixed facts
     entry 0x0000_0001 0 4 (fact_kind FactTag.Firmware)
@@ -81,7 +81,7 @@ outside_tags =
     ∷ []
 
 -- the frame buffer group: get, test and set of each setting, then pitch, allocate, release
-unfoldable pub group_tags : List Entry
+abbrev pub group_tags : List Entry
 group_tags =
     entry 0x0004_0003 0 8 (Kind.Group (FrameTag.Get Setting.Physical))
     ∷ entry 0x0004_4003 8 8 (Kind.Group (FrameTag.Test Setting.Physical))
@@ -109,10 +109,14 @@ group_tags =
 unfoldable pub table : List Entry
 table = outside_tags ++ group_tags
 
-abbrev pub find : ℕ → List Entry → Row
-find id [] = Row.Unknown
-find id (e ∷ es) = cond (eqb id e.id) (Row.Known e.kind e.request) (find id es)
+-- a known tag's row, by what it asks and the length of its request
+abbrev pub known : Kind → (request : ℕ) → Option Row
+known kind request = Some (record { kind = kind; request = request })
 
--- the row of an id: that of its entry, or unknown
-unfoldable pub row_of : ℕ → Row
+abbrev pub find : ℕ → List Entry → Option Row
+find id [] = None
+find id (e ∷ es) = cond (eqb id e.id) (known e.kind e.request) (find id es)
+
+-- the row of an id: that of its entry; an id with no entry is unknown
+unfoldable pub row_of : ℕ → Option Row
 row_of id = find id table

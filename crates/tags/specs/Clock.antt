@@ -1,17 +1,16 @@
 -- Clocks, ids 1 to 14.
-use Rattle.std.specs.Prelude.{cond, List, ℕ}
+use Rattle.std.specs.Prelude.{cond, List, ℕ, Option}
 use Rattle.words.specs.Clamp.{clamp}
 use Rattle.board.specs.Items.{no_clock}
 use Rattle.board.specs.declared.items.Clock.{Clock}
 use Rattle.table.specs.declared.kinds.ClockTag.{ClockTag}
 use Rattle.tags.specs.Place.{place_of, item_answer, items_after}
 use Rattle.tags.specs.State.{state_of, present, switched}
-use Rattle.tags.specs.declared.place.Place.{Place}
 
 abbrev pub clock_count : ℕ
 clock_count = 14
 
-abbrev pub clock_place : (id : ℕ) → Place
+abbrev pub clock_place : (id : ℕ) → Option ℕ
 clock_place id = place_of id 1 clock_count
 
 -- where a set rate lands: an existing clock takes it, clamped to its minimum and maximum

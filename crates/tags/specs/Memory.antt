@@ -1,5 +1,5 @@
 -- GPU memory: allocate, and the tags that name a block by its handle.
-use Rattle.std.specs.Prelude.{Bool, true, false, not, cond, ◌&&◌, List, ℕ, ◌-◌, ltb, get_or, set}
+use Rattle.std.specs.Prelude.{Bool, true, false, not, cond, ◌&&◌, List, ℕ, ◌-◌, ltb, get_or, set, Option, Some, None}
 use Rattle.words.specs.Align.{one_bit, aligned}
 use Rattle.words.specs.Every.{every}
 use Rattle.words.specs.Lowest.{lowest}
@@ -9,14 +9,13 @@ use Rattle.board.specs.declared.facts.Span.{Span}
 use Rattle.board.specs.declared.memory.Block.{Block}
 use Rattle.table.specs.declared.kinds.HandleTag.{HandleTag}
 use Rattle.tags.specs.Place.{place_of, item, change, id_of}
-use Rattle.tags.specs.declared.memory.Allocation.{Allocation}
-use Rattle.tags.specs.declared.place.Place.{Place}
+use Rattle.tags.specs.declared.memory.Granted.{Granted}
 
 -- a handle is the place of its block + 1: 1 to 32
 abbrev pub handle_count : ℕ
 handle_count = 32
 
-abbrev pub block_place : (handle : ℕ) → Place
+abbrev pub block_place : (handle : ℕ) → Option ℕ
 block_place handle = place_of handle 1 handle_count
 
 -- ---- allocate
@@ -47,24 +46,27 @@ abbrev pub new_block : (base size alignment flags : ℕ) → Block
 new_block base size alignment flags =
     record { taken = true; locked = false; base = base; size = size; alignment = alignment; flags = flags }
 
-unfoldable pub allocation : (heap : Span) → List Block → (size alignment flags : ℕ) → Allocation
+-- the block's handle and the block; none where it is refused
+unfoldable pub allocation : (heap : Span) → List Block → (size alignment flags : ℕ) → Option Granted
 allocation heap blocks size alignment flags =
     cond (grants heap blocks size alignment)
-    (Allocation.Granted (free_handle blocks)
-    (new_block (lowest_address heap blocks size alignment) size alignment flags))
-    Allocation.Refused
+    (Some (record {
+      handle = free_handle blocks;
+      block = new_block (lowest_address heap blocks size alignment) size alignment flags;
+    }))
+    None
 
 -- it answers the handle, 0 where it is refused
-abbrev pub granted_handle : Allocation → ℕ
-granted_handle (Allocation.Granted handle b) = handle
-granted_handle Allocation.Refused = 0
+abbrev pub granted_handle : Option Granted → ℕ
+granted_handle (Some g) = g.handle
+granted_handle None = 0
 
-abbrev pub blocks_with : Allocation → List Block → List Block
-blocks_with (Allocation.Granted handle b) blocks = set blocks (handle - 1) b
-blocks_with Allocation.Refused blocks = blocks
+abbrev pub blocks_with : Option Granted → List Block → List Block
+blocks_with (Some g) blocks = set blocks (g.handle - 1) g.block
+blocks_with None blocks = blocks
 
 -- the request is size, alignment and flags
-abbrev pub allocation_of : (request : List ℕ) → (heap : Span) → List Block → Allocation
+abbrev pub allocation_of : (request : List ℕ) → (heap : Span) → List Block → Option Granted
 allocation_of request heap blocks =
     allocation heap blocks (nth_word request 0) (nth_word request 1) (nth_word request 2)
 

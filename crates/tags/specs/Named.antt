@@ -1,5 +1,5 @@
 -- Describes code: the item that a tag names by its id, and what is answered where none has the id.
-use Rattle.std.specs.Prelude.{List, ◌≡◌, ℕ, ◌<◌}
+use Rattle.std.specs.Prelude.{List, ◌≡◌, ℕ, ◌<◌, Option, Some, IfSome}
 use Rattle.words.specs.Numbers.{le}
 use Rattle.board.specs.Items.{no_device, no_clock, no_voltage}
 use Rattle.board.specs.Memory.{no_block}
@@ -10,24 +10,18 @@ use Rattle.tags.specs.Memory.{handle_count, block_place, handle_value}
 use Rattle.tags.specs.Place.{place_of}
 use Rattle.tags.specs.Power.{device_count, device_place, power_value}
 use Rattle.tags.specs.Voltage.{voltage_count, voltage_place, voltage_value}
-use Rattle.tags.specs.declared.place.Place.{Place}
 
--- a place is within the items
-abbrev pub AmongItems : ℕ → Place → Type 0
-AmongItems count (Place.At i) = i < count
-AmongItems count Place.Unlisted = Unit {0}
-
-pub record Placed (id lowest count : ℕ) (r : Place) : Type 0 where
+pub record Placed (id lowest count : ℕ) (r : Option ℕ) : Type 0 where
   pub is : r ≡ place_of id lowest count
-  pub within : AmongItems count r
+  pub within : IfSome r (λ i. i < count)
 
-abbrev pub item_place : OutsideTag → (id : ℕ) → Place
-item_place (OutsideTag.Fact t) id = Place.At 0
+abbrev pub item_place : OutsideTag → (id : ℕ) → Option ℕ
+item_place (OutsideTag.Fact t) id = Some 0
 item_place (OutsideTag.Power t) id = device_place id
 item_place (OutsideTag.Clock t) id = clock_place id
 item_place (OutsideTag.Voltage t) id = voltage_place id
-item_place (OutsideTag.Temperature t) id = Place.At 0
-item_place OutsideTag.Allocate id = Place.At 0
+item_place (OutsideTag.Temperature t) id = Some 0
+item_place OutsideTag.Allocate id = Some 0
 item_place (OutsideTag.Handle t) id = block_place id
 
 -- how many items a family has
@@ -40,9 +34,9 @@ item_count (OutsideTag.Temperature t) = 1
 item_count OutsideTag.Allocate = 1
 item_count (OutsideTag.Handle t) = handle_count
 
-pub record Named (k : OutsideTag) (id : ℕ) (r : Place) : Type 0 where
+pub record Named (k : OutsideTag) (id : ℕ) (r : Option ℕ) : Type 0 where
   pub is : r ≡ item_place k id
-  pub within : AmongItems (item_count k) r
+  pub within : IfSome r (λ i. i < item_count k)
 
 abbrev pub absent_answer : OutsideTag → (id : ℕ) → List ℕ
 absent_answer (OutsideTag.Fact t) id = two_words id 0

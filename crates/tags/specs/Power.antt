@@ -1,16 +1,15 @@
 -- Power devices, ids 0 to 10.
-use Rattle.std.specs.Prelude.{List, ℕ}
+use Rattle.std.specs.Prelude.{List, ℕ, Option}
 use Rattle.board.specs.Items.{no_device}
 use Rattle.board.specs.declared.items.Device.{Device}
 use Rattle.table.specs.declared.kinds.PowerTag.{PowerTag}
 use Rattle.tags.specs.Place.{place_of, item_answer, items_after}
 use Rattle.tags.specs.State.{state_of, present, switched}
-use Rattle.tags.specs.declared.place.Place.{Place}
 
 abbrev pub device_count : ℕ
 device_count = 11
 
-abbrev pub device_place : (id : ℕ) → Place
+abbrev pub device_place : (id : ℕ) → Option ℕ
 device_place id = place_of id 0 device_count
 
 -- the device as a tag leaves it, x being the state that a set asks for

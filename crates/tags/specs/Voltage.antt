@@ -1,16 +1,15 @@
 -- Voltages, ids 1 to 4, in millivolts.
-use Rattle.std.specs.Prelude.{cond, List, ℕ, ◌+◌, ◌-◌, ◌/◌, ◌%◌, ◌^◌, ltb}
+use Rattle.std.specs.Prelude.{cond, List, ℕ, ◌+◌, ◌-◌, ◌/◌, ◌%◌, ◌^◌, ltb, Option}
 use Rattle.words.specs.Clamp.{clamp}
 use Rattle.board.specs.Items.{no_voltage}
 use Rattle.board.specs.declared.items.Voltage.{Voltage}
 use Rattle.table.specs.declared.kinds.VoltageTag.{VoltageTag}
 use Rattle.tags.specs.Place.{place_of, item_answer, items_after}
-use Rattle.tags.specs.declared.place.Place.{Place}
 
 abbrev pub voltage_count : ℕ
 voltage_count = 4
 
-abbrev pub voltage_place : (id : ℕ) → Place
+abbrev pub voltage_place : (id : ℕ) → Option ℕ
 voltage_place id = place_of id 1 voltage_count
 
 -- minus n as a word of 32 bits, in two's complement

@@ -5,28 +5,26 @@ ghost use Rattle.message.specs.Helpers.{InMessage};
 ghost use Rattle.answers.specs.Writing.{answered};
 ghost use Rattle.tags.specs.Named.{Named, absent_answer};
 
-use crate::clock::{absent_clock, clock_place, clock_value};
-use crate::memory::{block_place, handle_value};
-use crate::place::Place;
-use crate::power::{absent_device, device_place, power_value};
-use crate::voltage::{absent_voltage, voltage_place, voltage_value};
+use crate::clock::{absent_clock, clock_value};
+use crate::memory::handle_value;
+use crate::place::place_of;
+use crate::power::{absent_device, power_value};
+use crate::voltage::{absent_voltage, voltage_value};
 use answers::writing::{put_pair, put_word};
-use board::memory::Block;
+use board::memory::no_block;
 use table::kinds::OutsideTag;
 
 // The place of the item that a tag names. A fact and an allocate have no id and the temperature answers every id:
 // their place is 0.
-pub fn item_place(tag: OutsideTag, id: u32) -> Place
+pub fn item_place(tag: OutsideTag, id: u32) -> Option<usize>
     ensures { Named tag id result }
 {
     match tag {
-        OutsideTag::Fact(_) => Place::At(0),
-        OutsideTag::Power(_) => device_place(id),
-        OutsideTag::Clock(_) => clock_place(id),
-        OutsideTag::Voltage(_) => voltage_place(id),
-        OutsideTag::Temperature(_) => Place::At(0),
-        OutsideTag::Allocate => Place::At(0),
-        OutsideTag::Handle(_) => block_place(id),
+        OutsideTag::Power(_) => place_of(id, 0, 11),
+        OutsideTag::Clock(_) => place_of(id, 1, 14),
+        OutsideTag::Voltage(_) => place_of(id, 1, 4),
+        OutsideTag::Handle(_) => place_of(id, 1, 32),
+        OutsideTag::Fact(_) | OutsideTag::Temperature(_) | OutsideTag::Allocate => Some(0),
     }
 }
 
@@ -38,7 +36,6 @@ pub fn put_absent(msg: &mut [u8], at: usize, size: u32, tag: OutsideTag, id: u32
     ensures { msg.new ≡ answered at size (absent_answer tag id) msg.old }
 {
     match tag {
-        OutsideTag::Fact(_) => put_pair(msg, at, size, id, 0),
         OutsideTag::Power(kind) => {
             put_pair(msg, at, size, id, power_value(absent_device(), kind));
         }
@@ -48,8 +45,9 @@ pub fn put_absent(msg: &mut [u8], at: usize, size: u32, tag: OutsideTag, id: u32
         OutsideTag::Voltage(kind) => {
             put_pair(msg, at, size, id, voltage_value(absent_voltage(), kind));
         }
-        OutsideTag::Temperature(_) => put_pair(msg, at, size, id, 0),
-        OutsideTag::Allocate => put_pair(msg, at, size, id, 0),
-        OutsideTag::Handle(kind) => put_word(msg, at, size, handle_value(Block::default(), kind)),
+        OutsideTag::Handle(kind) => put_word(msg, at, size, handle_value(no_block(), kind)),
+        OutsideTag::Fact(_) | OutsideTag::Temperature(_) | OutsideTag::Allocate => {
+            put_pair(msg, at, size, id, 0);
+        }
     }
 }

@@ -1,20 +1,11 @@
 // Voltages.
 ghost use Rattle.std.specs.Prelude.{◌≡◌};
 ghost use Rattle.board.specs.Items.{no_voltage};
-ghost use Rattle.tags.specs.Named.{Placed};
-ghost use Rattle.tags.specs.Voltage.{voltage_count, max_offset, min_offset, voltage_after, voltage_value};
+ghost use Rattle.tags.specs.Voltage.{max_offset, min_offset, voltage_after, voltage_value};
 
-use crate::place::{Place, place_of};
 use board::items::Voltage;
 use table::kinds::VoltageTag;
 use words::clamp::clamped;
-
-// The place of the voltage of an id, 1 to 4.
-pub fn voltage_place(id: u32) -> Place
-    ensures { Placed id 1 voltage_count result }
-{
-    place_of(id, 1, 4)
-}
 
 // The voltage of an id that is not listed.
 pub fn absent_voltage() -> Voltage
@@ -28,12 +19,14 @@ pub fn absent_voltage() -> Voltage
     }
 }
 
+#[tactic(auto, using(crate::proofs::Laws::Offsets::max_offset_is))]
 fn max_offset(mv: u32) -> u32
     ensures { result ≡ max_offset mv }
 {
     ((mv as u64 / 25 + 0xffff_ffd0) % 0x1_0000_0000) as u32
 }
 
+#[tactic(auto, using(crate::proofs::Laws::Offsets::min_offset_is))]
 fn min_offset(mv: u32) -> u32
     ensures { result ≡ min_offset mv }
 {
@@ -41,34 +34,30 @@ fn min_offset(mv: u32) -> u32
 }
 
 // The voltage as a tag leaves it, x being what a set asks for.
+#[tactic(auto, unfolding(crate::specs::Voltage::voltage_after))]
 pub fn voltage_after(mut v: Voltage, tag: VoltageTag, x: u32) -> Voltage
     ensures { result ≡ voltage_after tag x v }
 {
     match tag {
-        VoltageTag::Set => {
-            if v.valid {
-                v.value = clamped(v.min, v.max, x);
-                return v;
-            }
+        VoltageTag::Set if v.valid => {
+            v.value = clamped(v.min, v.max, x);
             v
         }
-        VoltageTag::Get => v,
-        VoltageTag::Max => v,
-        VoltageTag::Min => v,
+        VoltageTag::Set | VoltageTag::Get | VoltageTag::Max | VoltageTag::Min => v,
     }
 }
 
 // What a tag answers of the voltage that it left.
+#[tactic(auto, unfolding(crate::specs::Voltage::voltage_value))]
 pub fn voltage_value(v: Voltage, tag: VoltageTag) -> u32
     ensures { result ≡ voltage_value tag v }
 {
-    if v.valid {
-        return match tag {
-            VoltageTag::Get => v.value,
-            VoltageTag::Set => v.value,
-            VoltageTag::Max => max_offset(v.max),
-            VoltageTag::Min => min_offset(v.min),
-        };
+    if !v.valid {
+        return 0x8000_0000;
     }
-    0x8000_0000
+    match tag {
+        VoltageTag::Get | VoltageTag::Set => v.value,
+        VoltageTag::Max => max_offset(v.max),
+        VoltageTag::Min => min_offset(v.min),
+    }
 }

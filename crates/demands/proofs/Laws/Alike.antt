@@ -7,12 +7,13 @@ use native.Mathlib.Omega.{arith}
 use borrow.Author.Tests.{leb-false}
 use lib.Dec.{ltb, eqb}
 use lib.ListN.{length, take, get_or}
+use Rattle.std.proofs.Common.{Option, Some, None}
 use Rattle.message.proofs.Laws.Paired.{Paired, no_pair, one_pair}
 use Rattle.message.specs.Outcomes.{done}
 use Rattle.message.specs.Reader.{is_answered, kept_tag, with_id}
 use Rattle.message.specs.declared.walk.Ending.{Ending}
 use Rattle.message.specs.declared.walk.Tag.{Tag}
-use Rattle.table.specs.Table.{row_of}
+use Rattle.table.specs.Table.{known, row_of}
 use Rattle.table.specs.declared.kinds.Kind.{Kind}
 use Rattle.table.specs.declared.rows.Row.{Row}
 use Rattle.requests.specs.Requests.{Request, passed, short, asks, value_of, request_bytes, request_by, request_of, Trail, cut_by, cut}
@@ -51,7 +52,7 @@ unfolding request_of request_by
 request_pair m m' t t' ei ew same n n' =
     rw (← ei, ← ew) (go (is_answered t) refl (row_of t.id) refl n (rw (← ei, ← ew) at n'))
   where
-    sized : (k : Kind) (c : ℕ) → row_of t.id ≡ Row.Known k c → t.word < 0x8000_0000 → (x y : Bool)
+    sized : (k : Kind) (c : ℕ) → row_of t.id ≡ known k c → t.word < 0x8000_0000 → (x y : Bool)
         → (cond x short (asks k (request_bytes k c t.size (value_of m t))) ≡ short → ⊥)
         → (cond y short (asks k (request_bytes k c t'.size (value_of m' t'))) ≡ short → ⊥) → cond x short (asks k (request_bytes k c t.size
         (value_of m t))) ≡ cond y short (asks k (request_bytes k c t'.size (value_of m' t')))
@@ -59,12 +60,12 @@ request_pair m m' t t' ei ew same n n' =
     sized k c er w false true a b = absurd (b refl)
     sized k c er w false false a b = ap (asks k) (same k c er w)
 
-    go : (r : Bool) → is_answered t ≡ r → (row : Row) → row_of t.id ≡ row → (request_by r row t.size (value_of m t) ≡ short → ⊥)
+    go : (r : Bool) → is_answered t ≡ r → (row : Option Row) → row_of t.id ≡ row → (request_by r row t.size (value_of m t) ≡ short → ⊥)
         → (request_by r row t'.size (value_of m' t') ≡ short → ⊥)
         → request_by r row t.size (value_of m t) ≡ request_by r row t'.size (value_of m' t')
     go true e row er a b = refl
-    go false e Row.Unknown er a b = refl
-    go false e (Row.Known k c) er a b = sized k c er (leb-false _ _ e) (ltb t.size c) (ltb t'.size c) a b
+    go false e None er a b = refl
+    go false e (Some row) er a b = sized row.kind row.request er (leb-false _ _ e) (ltb t.size row.request) (ltb t'.size row.request) a b
 
 -- ---- a trail without a fault has no short request
 module _ (m : List ℕ) (t : Tag) (rest : Trail) where

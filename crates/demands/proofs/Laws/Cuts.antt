@@ -2,12 +2,13 @@
 use mathlib.Core.Bool.{Bool, true, false, cond, true≢false}
 use mathlib.Core.List.{List, [], ◌∷◌}
 use mathlib.Core.Logic.{◌⊎◌, inl, inr}
-use mathlib.Core.Path.{◌≡◌, refl, sym}
+use mathlib.Core.Path.{◌≡◌, refl, sym, ap}
 use Prim.Native.Nat.{ℕ, zero, suc, ◌≤◌, ◌<◌}
 use native.Mathlib.Omega.{arith}
 use borrow.Author.Tests.{leb-false, lt-leb}
 use lib.Dec.{ltb, eqb}
 use lib.ListN.{get_or}
+use Rattle.std.proofs.Common.{Option, Some, None}
 use Rattle.words.specs.Numbers.{word}
 use Rattle.message.proofs.Laws.Follows.{Follows}
 use Rattle.message.proofs.Laws.Steps.{step_found}
@@ -16,17 +17,25 @@ use Rattle.message.specs.Reader.{is_answered}
 use Rattle.message.specs.Walk.{tag_at, overruns, step_of, step, ending_of}
 use Rattle.message.specs.declared.walk.Ending.{Ending}
 use Rattle.message.specs.declared.walk.Tag.{Tag}
-use Rattle.table.specs.Table.{row_of}
+use Rattle.table.specs.Table.{known, row_of}
 use Rattle.table.specs.declared.kinds.Kind.{Kind}
 use Rattle.table.specs.declared.rows.Row.{Row}
 use Rattle.requests.specs.Requests.{Request, passed, short, asks, value_of, request_bytes, request_by, request_of, Trail, cut_by, cut}
 use Rattle.demands.specs.Terms.{no_tag}
 
+-- of two equal rows both parts are equal
+pub row_same : {k k' : Kind} {n n' : ℕ} → known k n ≡ known k' n' → (k ≡ k') × (n ≡ n')
+row_same {k} {k'} {n} {n'} e =
+    let row : Row = record { kind = k; request = n } in
+    let row' : Row = record { kind = k'; request = n' } in
+    let r : row ≡ row' = cc in
+    (ap (λ (x : Row). x.kind) r, ap (λ (x : Row). x.request) r)
+
 -- ---- what a tag has that asks something
 pub record HasAsked (t : Tag) (k : Kind) : Type 0 where
   pub clear : t.word < 0x8000_0000
   pub least : ℕ
-  pub row : row_of t.id ≡ Row.Known k least
+  pub row : row_of t.id ≡ known k least
 
 pub has_asked : (m : List ℕ) (t : Tag) {k : Kind} {request : List ℕ} → request_of m t ≡ asks k request → HasAsked t k
 unfolding request_of request_by
@@ -36,13 +45,14 @@ has_asked m t {k} {request} e = go (is_answered t) refl (row_of t.id) refl e
     sized true k' n q = absurd (true≢false cc)
     sized false k' n q = cc
 
-    go : (a : Bool) → is_answered t ≡ a → (row : Row) → row_of t.id ≡ row → request_by a row t.size (value_of m t) ≡ asks k request → HasAsked t k
+    go : (a : Bool) → is_answered t ≡ a → (row : Option Row) → row_of t.id ≡ row → request_by a row t.size (value_of m t) ≡ asks k request → HasAsked t k
     go true ea row er q = absurd (true≢false cc)
-    go false ea Row.Unknown er q = absurd (true≢false cc)
-    go false ea (Row.Known k' n) er q = record { clear = leb-false _ _ ea; least = n; row = rw (← (sized (ltb t.size n) k' n q)) er }
+    go false ea None er q = absurd (true≢false cc)
+    go false ea (Some row) er q =
+        record { clear = leb-false _ _ ea; least = row.request; row = rw (← (sized (ltb t.size row.request) row.kind row.request q)) er }
 
 -- and it asks that, unless its value is too short
-pub asks_unless_short : (m : List ℕ) (t : Tag) {k : Kind} {n : ℕ} → row_of t.id ≡ Row.Known k n → t.word < 0x8000_0000 → (request_of m t ≡ short → ⊥)
+pub asks_unless_short : (m : List ℕ) (t : Tag) {k : Kind} {n : ℕ} → row_of t.id ≡ known k n → t.word < 0x8000_0000 → (request_of m t ≡ short → ⊥)
     → request_of m t ≡ asks k (request_bytes k n t.size (value_of m t))
 unfolding request_of request_by
 asks_unless_short m t {k} {n} er w ns = rw (lt-leb 0x8000_0000 t.word w, er) (go (ltb t.size n) (rw (lt-leb 0x8000_0000 t.word w, er) at ns))

@@ -1,13 +1,15 @@
 -- What a tag asks, case by case, and its request bytes.
 use mathlib.Core.Bool.{Bool, true, false, cond, true≢false}
-use mathlib.Core.List.{List, [], ◌∷◌}
+use mathlib.Core.List.{List}
 use mathlib.Core.Path.{◌≡◌, refl, sym, ap, ◌∙◌}
-use Prim.Native.Nat.{ℕ, zero, suc, ◌+◌, ◌-◌, ◌≤◌, ◌<◌}
+use Prim.Native.Nat.{ℕ, ◌+◌, ◌-◌, ◌≤◌, ◌<◌}
 use native.Mathlib.Omega.{arith}
 use borrow.Author.Tests.{le-leb, lt-leb, lt-ltb, le-ltb}
 use lib.Dec.{ltb}
 use lib.ListN.{length, take, drop, length-take, length-drop}
+use Rattle.std.proofs.lemmas.List.{take_min}
 use lib.Seq.{take-take, length-take-le}
+use Rattle.std.proofs.Common.{Option, Some, None}
 use Rattle.message.specs.Helpers.{InMessage}
 use Rattle.message.specs.Reader.{is_answered}
 use Rattle.message.specs.Sizes.{tag_header}
@@ -21,25 +23,10 @@ use Rattle.requests.specs.Ask.{ask_of}
 use Rattle.requests.specs.Requests.{Request, passed, short, asks, request_bytes, request_by, request_of, value_of}
 use Rattle.requests.specs.declared.ask.Ask.{Ask}
 
-take_first : (n : ℕ) (xs : List ℕ) → take n xs ≡ take (length (take n xs)) xs
-take_first zero xs = refl
-take_first (suc n) [] = refl
-take_first (suc n) (x ∷ xs) = ap (λ (l : List ℕ). x ∷ l) (take_first n xs)
-
--- ---- request bytes are the first of the value
+-- request bytes are the first of the value
 request_first : (k : Kind) (n size : ℕ) (value : List ℕ) → request_bytes k n size value ≡ take (length (request_bytes k n size value)) value
 unfolding request_bytes
-request_first k n size value = take_first n value
-
--- their length, as `request_length` finds it
-module _ (k : Kind) (n size : ℕ) (value : List ℕ) where
-  pub request_least : n ≤ length value → n ≡ length (request_bytes k n size value)
-  unfolding request_bytes
-  request_least h = omega (arith, length-take n value)
-
-  pub request_all : length value < n → length value ≡ length (request_bytes k n size value)
-  unfolding request_bytes
-  request_all h = omega (arith, length-take n value)
+request_first k n size value = rw (length-take n value) (sym (take_min n value))
 
 -- a request lies in the value of its tag
 pub record InValue (m : List ℕ) (t : Tag) (request : List ℕ) : Type 0 where
@@ -61,10 +48,10 @@ request_within m t {k} {request} e = go (is_answered t) (row_of t.id) e
     sized k' n true q = absurd (true≢false cc)
     sized k' n false q = let r : request ≡ request_bytes k' n t.size (value_of m t) = cc in here k' n r
 
-    go : (c : Bool) (row : Row) → request_by c row t.size (value_of m t) ≡ asks k request → InValue m t request
+    go : (c : Bool) (row : Option Row) → request_by c row t.size (value_of m t) ≡ asks k request → InValue m t request
     go true row q = absurd (true≢false cc)
-    go false Row.Unknown q = absurd (true≢false cc)
-    go false (Row.Known k' n) q = sized k' n (ltb t.size n) q
+    go false None q = absurd (true≢false cc)
+    go false (Some row) q = sized row.kind row.request (ltb t.size row.request) q
 
 -- ---- what the tag at hand asks
 module _ (m : List ℕ) (t : Tag) where
@@ -73,35 +60,35 @@ module _ (m : List ℕ) (t : Tag) where
   ask_response h = rw (le-leb 0x8000_0000 t.word h)
 
   -- whatever its tag word is
-  pub ask_unknown : {row : Row} → row ≡ row_of t.id → row ≡ Row.Unknown → Ask.Pass ≡ ask_of (request_of m t)
+  pub ask_unknown : {found : Option Row} → found ≡ row_of t.id → found ≡ None → Ask.Pass ≡ ask_of (request_of m t)
   unfolding request_of request_by ask_of
   ask_unknown er e = rw (← er, e) (of_word (is_answered t))
     where
-      of_word : (answered : Bool) → Ask.Pass ≡ ask_of (request_by answered Row.Unknown t.size (value_of m t))
+      of_word : (answered : Bool) → Ask.Pass ≡ ask_of (request_by answered None t.size (value_of m t))
       of_word true = refl
       of_word false = refl
 
-  module _ (h : t.word < 0x8000_0000) {row : Row} (er : row ≡ row_of t.id) {kind : Kind} {least : ℕ} (e : row ≡ Row.Known kind least) where
-    request_is : request_of m t ≡ request_by false (Row.Known kind least) t.size (value_of m t)
+  module _ (h : t.word < 0x8000_0000) {found : Option Row} (er : found ≡ row_of t.id) {row : Row} (e : found ≡ Some row) where
+    request_is : request_of m t ≡ request_by false (Some row) t.size (value_of m t)
     unfolding request_of
     request_is = rw (lt-leb 0x8000_0000 t.word h, ← er, e)
 
-    pub ask_short : t.size < least → Ask.Short ≡ ask_of (request_of m t)
+    pub ask_short : t.size < row.request → Ask.Short ≡ ask_of (request_of m t)
     unfolding request_by ask_of
-    ask_short l = rw (request_is, lt-ltb t.size least l)
+    ask_short l = rw (request_is, lt-ltb t.size row.request l)
 
     -- the value as it is lent, and the length of its request
     abbrev lent_value : List ℕ
     lent_value = take (t.at + tag_header + t.size - (t.at + tag_header)) (drop (t.at + tag_header) m)
 
-    module _ (l : least ≤ t.size) (i : InMessage (length m) t.at t.size) {count : ℕ}
-        (ec : count ≡ length (request_bytes kind least (length lent_value) lent_value)) where
+    module _ (l : row.request ≤ t.size) (i : InMessage (length m) t.at t.size) {count : ℕ}
+        (ec : count ≡ length (request_bytes row.kind row.request (length lent_value) lent_value)) where
       abbrev request : List ℕ
-      request = request_bytes kind least t.size (value_of m t)
+      request = request_bytes row.kind row.request t.size (value_of m t)
 
-      asks_known : request_of m t ≡ asks kind request
+      asks_known : request_of m t ≡ asks row.kind request
       unfolding request_by
-      asks_known = rw (request_is, le-ltb t.size least l)
+      asks_known = rw (request_is, le-ltb t.size row.request l)
 
       count_is : count ≡ length request
       count_is =
@@ -109,13 +96,13 @@ module _ (m : List ℕ) (t : Tag) where
           let v : lent_value ≡ value_of m t = ap (λ (n : ℕ). take n (drop (t.at + tag_header) m)) z in
           let h : t.size ≤ length (drop (t.at + tag_header) m) = omega (arith, length-drop (t.at + tag_header) m, i.within) in
           let n : length (value_of m t) ≡ t.size = length-take-le t.size (drop (t.at + tag_header) m) h in
-          ec ∙ ap (λ (x : List ℕ). length (request_bytes kind least (length x) x)) v ∙ ap (λ (x : ℕ). length (request_bytes kind least x (value_of m t))) n
+          ec ∙ ap (λ (x : List ℕ). length (request_bytes row.kind row.request (length x) x)) v ∙ ap (λ (x : ℕ). length (request_bytes row.kind row.request x (value_of m t))) n
 
-      pub ask_outside : {k : OutsideTag} → kind ≡ Kind.Outside k → Ask.Outside k count ≡ ask_of (request_of m t)
+      pub ask_outside : {k : OutsideTag} → row.kind ≡ Kind.Outside k → Ask.Outside k count ≡ ask_of (request_of m t)
       unfolding ask_of
       ask_outside {k} ek = ap (Ask.Outside k) count_is ∙ ap (λ (x : Kind). ask_of (asks x request)) (sym ek) ∙ ap ask_of (sym asks_known)
 
-      pub ask_group : {k : FrameTag} → kind ≡ Kind.Group k → Ask.Group k count ≡ ask_of (request_of m t)
+      pub ask_group : {k : FrameTag} → row.kind ≡ Kind.Group k → Ask.Group k count ≡ ask_of (request_of m t)
       unfolding ask_of
       ask_group {k} ek = ap (Ask.Group k) count_is ∙ ap (λ (x : Kind). ask_of (asks x request)) (sym ek) ∙ ap ask_of (sym asks_known)
 

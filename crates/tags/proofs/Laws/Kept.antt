@@ -6,6 +6,7 @@ use Prim.Native.Nat.{ℕ, ◌-◌, ◌<◌}
 use borrow.Author.Tests.{lt-ltb, le-leb}
 use lib.ListN.{get_or, set}
 use lib.Seq.{set-get_or}
+use Rattle.std.proofs.Common.{Option, Some, None}
 use Rattle.words.proofs.Laws.Every.{every_at, every_set, pairs_at}
 use Rattle.words.specs.Align.{one_bit}
 use Rattle.words.specs.Every.{every}
@@ -29,16 +30,15 @@ use Rattle.tags.specs.Outside.{outside_after}
 use Rattle.tags.specs.Place.{change, new_value, id_of, items_after}
 use Rattle.tags.specs.Power.{device_place, power_after, devices_after}
 use Rattle.tags.specs.Voltage.{voltage_place, voltage_after, voltages_after}
-use Rattle.tags.specs.declared.memory.Allocation.{Allocation}
-use Rattle.tags.specs.declared.place.Place.{Place}
+use Rattle.tags.specs.declared.memory.Granted.{Granted}
 
 -- a change that keeps an item valid keeps all valid
 module _ {A : Type 0} (p : A → Bool) (none : A) (n : p none ≡ true) where
-  all_change : (f : A → A) (xs : List A) (at : Place) → ((x : A) → p x ≡ true → p (f x) ≡ true) → every p xs ≡ true → every p (change none f xs at) ≡ true
-  all_change f xs (Place.At i) k h = every_set p xs i (f (get_or xs i none)) (k (get_or xs i none) (every_at p none xs i n h)) h
-  all_change f xs Place.Unlisted k h = h
+  all_change : (f : A → A) (xs : List A) (at : Option ℕ) → ((x : A) → p x ≡ true → p (f x) ≡ true) → every p xs ≡ true → every p (change none f xs at) ≡ true
+  all_change f xs (Some i) k h = every_set p xs i (f (get_or xs i none)) (k (get_or xs i none) (every_at p none xs i n h)) h
+  all_change f xs None k h = h
 
-  items_valid : (place : ℕ → Place) (after : ℕ → A → A) → ((x : ℕ) (y : A) → p y ≡ true → p (after x y) ≡ true) → (request : List ℕ) (xs : List A)
+  items_valid : (place : ℕ → Option ℕ) (after : ℕ → A → A) → ((x : ℕ) (y : A) → p y ≡ true → p (after x y) ≡ true) → (request : List ℕ) (xs : List A)
       → every p xs ≡ true → every p (items_after none place after request xs) ≡ true
   items_valid place after k request xs = all_change (after (new_value request)) xs (place (id_of request)) (k (new_value request))
 
@@ -53,14 +53,14 @@ module _ (region heap : Span) (blocks : List Block) (v : valid_memory region hea
       (rw (lt-ltb 0 size s, le-leb _ _ f.first, le-leb _ _ f.last, o, f.even))
       (λ j n. every_at (clear_of (span a size)) no_block blocks j (clear_of_none (span a size)) f.alone)
 
-  allocation_valid : (size alignment flags : ℕ) (g : Allocation) → g ≡ allocation heap blocks size alignment flags
+  allocation_valid : (size alignment flags : ℕ) (g : Option Granted) → g ≡ allocation heap blocks size alignment flags
       → valid_memory region heap (blocks_with g blocks) ≡ true
-  allocation_valid size alignment flags (Allocation.Granted handle b) e =
+  allocation_valid size alignment flags (Some new) e =
       let g = grant_is heap blocks size alignment flags e in
       let w = address_is heap blocks size alignment (memory_parts region heap blocks v).placed in
       rw g.block_is
-      (new_valid size alignment flags _ g.filled g.single (fits_is heap blocks size alignment _ (w.passes g.has_address)) (handle - 1))
-  allocation_valid size alignment flags Allocation.Refused e = v
+      (new_valid size alignment flags _ g.filled g.single (fits_is heap blocks size alignment _ (w.passes g.has_address)) (new.handle - 1))
+  allocation_valid size alignment flags None e = v
 
   -- a block that was there, with another lock, or none
   locked_valid : (locked : Bool) (i : ℕ) → valid_memory region heap (set blocks i (with_lock locked (get_or blocks i no_block))) ≡ true
@@ -75,9 +75,9 @@ module _ (region heap : Span) (blocks : List Block) (v : valid_memory region hea
   unfolding disjoint
   free_valid i = memory_set region heap blocks v i no_block (no_block_valid heap) (λ j n. refl)
 
-  handle_valid : (t : HandleTag) (at : Place) → valid_memory region heap (change no_block (handle_after t) blocks at) ≡ true
-  handle_valid t Place.Unlisted = v
-  handle_valid t (Place.At i) = go t (get_or blocks i no_block).taken refl
+  handle_valid : (t : HandleTag) (at : Option ℕ) → valid_memory region heap (change no_block (handle_after t) blocks at) ≡ true
+  handle_valid t None = v
+  handle_valid t (Some i) = go t (get_or blocks i no_block).taken refl
     where
       left : (t : HandleTag) {c : Block} → c ≡ handle_after t (get_or blocks i no_block) → valid_memory region heap (set blocks i c) ≡ true
           → valid_memory region heap (set blocks i (handle_after t (get_or blocks i no_block))) ≡ true

@@ -5,11 +5,15 @@ use mathlib.Core.Path.{◌≡◌, refl, sym, ap, ap₂, ◌∙◌}
 use Prim.Native.Nat.{ℕ, ◌+◌, ◌-◌, ◌≤◌, ◌<◌}
 use native.Mathlib.Decide.{ℕ_discrete, dec_le}
 use native.Mathlib.Omega.{arith}
+use borrow.Author.Count.{below_more}
 use borrow.Author.Tests.{leb-true, le-leb, ltb-true, lt-ltb, le-ltb}
 use lib.Dec.{leb, ltb}
 use lib.ListN.{length, get_or}
+use Rattle.std.proofs.Common.{Option, Some, None}
+use Rattle.std.specs.List.{position, position_or_len}
+use Rattle.std.proofs.lemmas.List.Sums.{fails_before_first, passes_at_first}
 use Rattle.words.proofs.Laws.Align.{one_bit_least, up_above, up_aligned, up_least}
-use Rattle.words.proofs.Laws.Every.{every_at, Passing, passing_from, passing_all, passing_next}
+use Rattle.words.proofs.Laws.Every.{every_at, every_from}
 use Rattle.words.proofs.Laws.Lowest.{Passed, Lowest, lowest_is, lowest_found, lowest_none}
 use Rattle.words.specs.Align.{one_bit, aligned}
 use Rattle.words.specs.Every.{every}
@@ -21,47 +25,42 @@ use Rattle.board.specs.declared.facts.Span.{Span}
 use Rattle.board.specs.declared.memory.Block.{Block}
 use Rattle.table.specs.declared.kinds.HandleTag.{HandleTag}
 use Rattle.tags.specs.Memory.{handle_count, is_free, free_handle, fits_at, lowest_address, grants, new_block, allocation, with_lock, taken_after, handle_after}
-use Rattle.tags.specs.declared.memory.Allocation.{Allocation}
+use Rattle.tags.specs.declared.memory.Granted.{Granted}
 use Rattle.tags.specs.Raised.{raised_over, Raised}
 
--- ---- the lowest free handle, as a scan finds it: that of the places before i, 0 where all of them are taken
-pub record FirstFree (blocks : List Block) (handle i : ℕ) : Type 0 where
-  pub none_free : handle ≡ 0 → Passed (is_free blocks) 1 (i + 1)
-  pub found : (handle ≡ 0 → ⊥) → handle ≡ free_handle blocks
+-- ---- the lowest free handle, by the first place that is free
+abbrev handle_of : (place : Option ℕ) → ℕ
+handle_of (Some i) = i + 1
+handle_of None = 0
 
-pub first_start : (blocks : List Block) → FirstFree blocks 0 0
-first_start blocks = record { none_free = λ _ y l _. l; found = λ n. absurd (n refl) }
-
-at_place : (blocks : List Block) (i : ℕ) {t : Bool} → (get_or blocks i no_block).taken ≡ t → is_free blocks (i + 1) ≡ not t
-at_place blocks i e = let z : i + 1 - 1 ≡ i = omega arith in rw z (ap not e)
-
-module _ (blocks : List Block) {handle i : ℕ} (s : FirstFree blocks handle i) where
-  pub first_taken : (get_or blocks i no_block).taken ≡ true → {h : ℕ} → h ≡ handle → FirstFree blocks h (i + 1)
-  first_taken t e = record { none_free = λ z y l f. go y l f (s.none_free (sym e ∙ z)) (ℕ_discrete y (i + 1)); found = λ n. e ∙ s.found (λ z. n (e ∙ z)) }
-    where
-      go : (y : ℕ) → 1 ≤ y → is_free blocks y ≡ true → Passed (is_free blocks) 1 (i + 1) → Dec (y ≡ i + 1) → i + 1 + 1 ≤ y
-      go y l f b (yes q) = absurd (true≢false (sym f ∙ ap (is_free blocks) q ∙ at_place blocks i t))
-      go y l f b (no q) = let k = b y l f in omega arith
-
-  pub first_found : i < 32 → (get_or blocks i no_block).taken ≡ false → handle ≡ 0 → {h : ℕ} → h ≡ i + 1 → FirstFree blocks h (i + 1)
-  unfolding free_handle
-  first_found l t z e =
-      record {
-        none_free = λ n. absurd (omega arith);
-        found = λ _. e
-            ∙ lowest_found (is_free blocks) handle_count 1 (omega arith) (i + 1) (omega arith) (omega arith) (at_place blocks i t) (s.none_free z);
-      }
-
-  pub first_kept : (handle ≡ 0 → ⊥) → {h : ℕ} → h ≡ handle → FirstFree blocks h (i + 1)
-  first_kept n e = record { none_free = λ z. absurd (n (sym e ∙ z)); found = λ _. e ∙ s.found n }
-
-pub first_all : (blocks : List Block) {handle i : ℕ} → FirstFree blocks handle i → 32 ≤ i → handle ≡ free_handle blocks
+pub place_found : (blocks : List Block) → length blocks ≡ 32 → {place : Option ℕ} → place ≡ position (λ b. not b.taken) blocks
+    → handle_of place ≡ free_handle blocks
 unfolding free_handle
-first_all blocks {handle} {i} s l = go (ℕ_discrete handle 0)
+place_found blocks n {place} e = go (dec_le (length blocks) (position_or_len free blocks)) (e ∙ refl)
   where
-    go : Dec (handle ≡ 0) → handle ≡ lowest (is_free blocks) handle_count 1
-    go (yes z) = z ∙ lowest_none (is_free blocks) handle_count 1 (omega arith) (λ y k t. let h = s.none_free z y k t in omega arith)
-    go (no n) = s.found n
+    free : Block → Bool
+    free b = not b.taken
+
+    first : ℕ
+    first = position_or_len free blocks
+
+    -- no handle of a place before the first free one is free
+    passed : (n : ℕ) → n ≤ first → Passed (is_free blocks) 1 (n + 1)
+    passed n l y m t = later (dec_le (n + 1) y)
+      where
+        later : Dec (n + 1 ≤ y) → n + 1 ≤ y
+        later (yes k) = k
+        later (no k) = absurd (true≢false (sym t ∙ fails_before_first free blocks (y - 1) no_block (omega arith)))
+
+    go : Dec (length blocks ≤ first) → place ≡ position free blocks → handle_of place ≡ lowest (is_free blocks) handle_count 1
+    go (yes l) e =
+        rw (e, le-ltb first (length blocks) l) (lowest_none (is_free blocks) handle_count 1 (omega arith) (passed 32 (omega (arith, n))))
+    go (no l) e =
+        let z : first + 1 - 1 ≡ first = omega arith in
+        let k : first < length blocks = omega arith in
+        rw (e, lt-ltb first (length blocks) k)
+        (lowest_found (is_free blocks) handle_count 1 (omega arith) (first + 1) (omega arith) (omega arith)
+        (ap (λ (i : ℕ). free (get_or blocks i no_block)) z ∙ passes_at_first free blocks no_block k) (passed first (omega arith)))
 
 pub free_is : (blocks : List Block) → Lowest (is_free blocks) handle_count 1 (free_handle blocks)
 unfolding free_handle
@@ -125,51 +124,30 @@ module _ (size : ℕ) (b : Block) where
           let e : apart (span y size) (bytes_of b) ≡ true = rw w.taken at t in
           absurd (true≢false (sym e ∙ meets_is (span y size) (bytes_of b) (record { filled = p; filled' = q; behind = omega arith; before = omega arith })))
 
-pub raised_behind : (b : Block) (address size alignment : ℕ) {t : Bool} → t ≡ clear_of (span address size) b → t ≡ false → {s : Span} → s ≡ bytes_of b
-    → {e : ℕ} → e ≡ s.base + s.size → {r : ℕ} → r ≡ round_up alignment e → r ≡ raised_over b address size alignment
-raised_behind b address size alignment et n es ee er =
-    rw (← et, n) (er ∙ ap (round_up alignment) (ee ∙ ap (λ (x : Span). x.base + x.size) es))
-
-pub raised_free : (b : Block) (address size alignment : ℕ) → b.taken ≡ false → address ≡ raised_over b address size alignment
-unfolding clear_of
-raised_free b address size alignment e =
-    ap (λ (t : Bool). cond (not t || apart (span address size) (bytes_of b)) address (round_up alignment (b.base + b.size))) (sym e)
-
 -- ---- the address raised over one block after the other: those before i are not in its way, unless it has been raised
 pub record Raising (blocks : List Block) (address size alignment a i : ℕ) : Type 0 where
   pub even : aligned alignment a ≡ true
   pub above : address ≤ a
   pub most : a < 0x3_0000_0000
   pub passes : (y : ℕ) → address ≤ y → aligned alignment y ≡ true → every (clear_of (span y size)) blocks ≡ true → a ≤ y
-  pub within : i ≤ 32
-  pub count_is : length blocks ≡ 32
-  pub ahead : a ≡ address → Passing (clear_of (span address size)) 32 blocks (every (clear_of (span address size)) blocks) i
+  pub before_clear : a ≡ address → (k : ℕ) → k < i → clear_of (span address size) (get_or blocks k no_block) ≡ true
 
 module _ (blocks : List Block) (address size alignment : ℕ) where
-  pub raising_start : aligned alignment address ≡ true → address < 0x3_0000_0000 → length blocks ≡ 32 → Raising blocks address size alignment address 0
-  raising_start e l n =
-      record {
-        even = e;
-        above = omega arith;
-        most = l;
-        passes = λ y h _ _. h;
-        within = omega arith;
-        count_is = n;
-        ahead = λ _. passing_from 0 (omega arith) n;
-      }
-
   module _ {a i : ℕ} (s : Raising blocks address size alignment a i) where
-    pub raising_done : 32 ≤ i → Raised blocks address size alignment a
+    pub raising_done : length blocks ≤ i → Raised blocks address size alignment a
     raising_done l =
-        record { even = s.even; above = s.above; most = s.most; passes = s.passes; stays = λ e. sym (passing_all (s.ahead e) l) }
+        record {
+          even = s.even;
+          above = s.above;
+          most = s.most;
+          passes = s.passes;
+          stays = λ e. every_from (clear_of (span address size)) no_block blocks (λ k h. s.before_clear e k (omega arith));
+        }
 
-    pub raising_next : i < 32 → one_bit alignment ≡ true → {r : ℕ} → r ≡ raised_over (get_or blocks i no_block) a size alignment → r < 0x3_0000_0000
+    pub raising_next : one_bit alignment ≡ true → {r : ℕ} → r ≡ raised_over (get_or blocks i no_block) a size alignment → r < 0x3_0000_0000
         → Raising blocks address size alignment r (i + 1)
-    raising_next l o {r} er m = go (clear_of (span a size) b) refl (er ∙ refl)
+    raising_next o {r} er m = go (clear_of (span a size) (get_or blocks i no_block)) refl (er ∙ refl)
       where
-        b : Block
-        b = get_or blocks i no_block
-
         go : (t : Bool) → clear_of (span a size) (get_or blocks i no_block) ≡ t
             → r ≡ cond t a (round_up alignment ((get_or blocks i no_block).base + (get_or blocks i no_block).size))
             → Raising blocks address size alignment r (i + 1)
@@ -179,10 +157,9 @@ module _ (blocks : List Block) (address size alignment : ℕ) where
               above = omega (arith, s.above);
               most = m;
               passes = λ y h k c. rw e (s.passes y h k c);
-              within = omega arith;
-              count_is = s.count_is;
-              ahead = λ q. passing_next (s.ahead (sym e ∙ q)) l no_block {r = true}
-                  (sym (ap (λ (x : ℕ). clear_of (span x size) (get_or blocks i no_block)) (sym q ∙ e) ∙ t)) refl;
+              before_clear = λ q. let z : a ≡ address = sym e ∙ q in
+                  below_more (λ k. clear_of (span address size) (get_or blocks k no_block) ≡ true) i (s.before_clear z)
+                  (ap (λ (x : ℕ). clear_of (span x size) (get_or blocks i no_block)) (sym z) ∙ t);
             }
         go false t e =
             let w = in_the_way size (get_or blocks i no_block) a t in
@@ -195,36 +172,36 @@ module _ (blocks : List Block) (address size alignment : ℕ) where
               most = m;
               passes = λ y h k c. rw e (up_least alignment _ p y k (way_passed size (get_or blocks i no_block) w y (s.passes y h k c)
                   (every_at (clear_of (span y size)) no_block blocks i (clear_of_none (span y size)) c)));
-              within = omega arith;
-              count_is = s.count_is;
-              ahead = λ q. absurd (omega (arith, s.above));
+              before_clear = λ q. absurd (omega (arith, s.above));
             }
 
 -- ---- what an allocate comes to, as the code tests it: refused for each of four reasons, else granted
+abbrev granted : (handle : ℕ) → Block → Option Granted
+granted handle b = Some (record { handle = handle; block = b })
+
 module _ (heap : Span) (blocks : List Block) (size alignment flags : ℕ) where
-  not_granted : grants heap blocks size alignment ≡ false → Allocation.Refused ≡ allocation heap blocks size alignment flags
+  not_granted : grants heap blocks size alignment ≡ false → None ≡ allocation heap blocks size alignment flags
   unfolding allocation
   not_granted e = rw e
 
-  pub size_refused : size ≡ 0 → Allocation.Refused ≡ allocation heap blocks size alignment flags
+  pub size_refused : size ≡ 0 → None ≡ allocation heap blocks size alignment flags
   unfolding grants
   size_refused z = not_granted (rw (le-ltb 0 size (omega arith)))
 
-  pub alignment_refused : one_bit alignment ≡ false → Allocation.Refused ≡ allocation heap blocks size alignment flags
+  pub alignment_refused : one_bit alignment ≡ false → None ≡ allocation heap blocks size alignment flags
   unfolding grants
   alignment_refused e = not_granted (rw (e, and-false))
 
-  pub place_refused : free_handle blocks ≡ 0 → Allocation.Refused ≡ allocation heap blocks size alignment flags
+  pub place_refused : free_handle blocks ≡ 0 → None ≡ allocation heap blocks size alignment flags
   unfolding grants
   place_refused z = not_granted (rw (le-ltb 0 (free_handle blocks) (omega arith), and-false))
 
-  pub address_refused : lowest_address heap blocks size alignment ≡ 0 → Allocation.Refused ≡ allocation heap blocks size alignment flags
+  pub address_refused : lowest_address heap blocks size alignment ≡ 0 → None ≡ allocation heap blocks size alignment flags
   unfolding grants
   address_refused z = not_granted (rw (le-ltb 0 (lowest_address heap blocks size alignment) (omega arith), and-false))
 
   pub is_granted : 0 < size → one_bit alignment ≡ true → 0 < free_handle blocks → 0 < lowest_address heap blocks size alignment
-      → Allocation.Granted (free_handle blocks) (new_block (lowest_address heap blocks size alignment) size alignment flags)
-      ≡ allocation heap blocks size alignment flags
+      → granted (free_handle blocks) (new_block (lowest_address heap blocks size alignment) size alignment flags) ≡ allocation heap blocks size alignment flags
   unfolding grants allocation
   is_granted p o h a = rw (lt-ltb 0 size p, o, lt-ltb 0 (free_handle blocks) h, lt-ltb 0 (lowest_address heap blocks size alignment) a)
 
@@ -240,27 +217,18 @@ module _ (blocks : List Block) (last size alignment : ℕ) where
   search_start o b e l =
       record { even = rw e (up_aligned alignment b (one_bit_least alignment o)); most = l; least = omega arith; passed = λ y h _ _ _. h }
 
-  pub search_next : {a₀ a r : ℕ} → Searching blocks last size alignment a₀ a → Raised blocks a size alignment r → Searching blocks last size alignment a₀ r
-  search_next s w =
-      record {
-        even = w.even;
-        most = w.most;
-        least = omega (arith, s.least, w.above);
-        passed = λ y h k l c. w.passes y (s.passed y h k l c) k c;
-      }
-
-module _ (heap : Span) (blocks : List Block) (size alignment : ℕ) (v : valid_heap heap ≡ true) (p : 0 < size) (o : one_bit alignment ≡ true) {a₀ last a : ℕ}
-    (e₀ : a₀ ≡ round_up alignment heap.base) (el : last ≡ heap.base + heap.size) (s : Searching blocks last size alignment a₀ a) where
+module _ (heap : Span) (blocks : List Block) (size alignment : ℕ) (v : valid_heap heap ≡ true) (p : 0 < size) (o : one_bit alignment ≡ true) {a₀ a : ℕ}
+    (e₀ : a₀ ≡ round_up alignment heap.base) (s : Searching blocks (heap.base + heap.size) size alignment a₀ a) where
   before : (y : ℕ) → fits_at heap blocks size alignment y ≡ true → a ≤ y
   before y t =
       let f = fits_is heap blocks size alignment y t in
       let h : a₀ ≤ y = rw e₀ (up_least alignment heap.base (one_bit_least alignment o) y f.even f.first) in
-      s.passed y h f.even (rw el f.last) f.alone
+      s.passed y h f.even f.last f.alone
 
   from_base : heap.base ≤ a
   from_base = omega (arith, s.least, up_above alignment heap.base (one_bit_least alignment o))
 
-  pub address_found : a + size ≤ last → {r : ℕ} → Raised blocks a size alignment r → r ≡ a → a ≡ lowest_address heap blocks size alignment
+  address_found : a + size ≤ heap.base + heap.size → {r : ℕ} → Raised blocks a size alignment r → r ≡ a → a ≡ lowest_address heap blocks size alignment
   unfolding lowest_address
   address_found l w e =
       let k = heap_is heap v in
@@ -268,19 +236,19 @@ module _ (heap : Span) (blocks : List Block) (size alignment : ℕ) (v : valid_h
       (fits_by heap blocks size alignment a (record { even = s.even; first = from_base; last = omega arith; alone = w.stays e }))
       (λ y _ t. before y t)
 
-  pub address_none : last < a + size → lowest_address heap blocks size alignment ≡ 0
+  pub address_none : heap.base + heap.size < a + size → lowest_address heap blocks size alignment ≡ 0
   unfolding lowest_address
   address_none l =
       let k = heap_is heap v in
       sym (lowest_none (fits_at heap blocks size alignment) heap.size heap.base k.first
       (λ y _ t. let f = (fits_is heap blocks size alignment y t).last in let b = before y t in absurd (omega arith)))
 
-  pub search_granted : (flags : ℕ) → a + size ≤ last → {h r : ℕ} → h ≡ free_handle blocks → Raised blocks a size alignment r → (h ≡ 0 → ⊥) → r ≡ a
-      → {b : Block} → b ≡ new_block a size alignment flags → Allocation.Granted h b ≡ allocation heap blocks size alignment flags
-  search_granted flags l eh w n e eb =
+  pub search_granted : (flags : ℕ) → a + size ≤ heap.base + heap.size → (i : ℕ) {r : ℕ} → i + 1 ≡ free_handle blocks → Raised blocks a size alignment r → r ≡ a
+      → {b : Block} → b ≡ new_block a size alignment flags → granted (i + 1) b ≡ allocation heap blocks size alignment flags
+  search_granted flags l i eh w e eb =
       let k = (heap_is heap v).first in
       let ea = address_found l w e in
-      ap₂ (λ (x : ℕ) (y : Block). Allocation.Granted x y) eh (eb ∙ ap (λ (x : ℕ). new_block x size alignment flags) ea)
+      ap₂ granted eh (eb ∙ ap (λ (x : ℕ). new_block x size alignment flags) ea)
       ∙ is_granted heap blocks size alignment flags p o (omega arith) (omega (arith, from_base))
 
 -- ---- the address that is found
@@ -291,18 +259,18 @@ module _ (heap : Span) (blocks : List Block) (size alignment : ℕ) (v : valid_h
 
 -- ---- what is granted, as plain facts
 module _ (heap : Span) (blocks : List Block) (size alignment flags : ℕ) where
-  pub record Grant (handle : ℕ) (b : Block) : Type 0 where
+  pub record Grant (g : Granted) : Type 0 where
     pub filled : 0 < size
     pub single : one_bit alignment ≡ true
-    pub handle_is : handle ≡ free_handle blocks
-    pub handle_least : 0 < handle
+    pub handle_is : g.handle ≡ free_handle blocks
+    pub handle_least : 0 < g.handle
     pub has_address : 0 < lowest_address heap blocks size alignment
-    pub block_is : b ≡ new_block (lowest_address heap blocks size alignment) size alignment flags
+    pub block_is : g.block ≡ new_block (lowest_address heap blocks size alignment) size alignment flags
 
-  pub grants_is : grants heap blocks size alignment ≡ true → {handle : ℕ} → handle ≡ free_handle blocks → {b : Block}
-      → b ≡ new_block (lowest_address heap blocks size alignment) size alignment flags → Grant handle b
+  grants_is : grants heap blocks size alignment ≡ true → {g : Granted} → g.handle ≡ free_handle blocks
+      → g.block ≡ new_block (lowest_address heap blocks size alignment) size alignment flags → Grant g
   unfolding grants
-  grants_is e {handle} eh eb =
+  grants_is e {g} eh eb =
       let s = ltb 0 size in
       let h = ltb 0 (free_handle blocks) in
       let e2 = (and-eq-true_iff (s && one_bit alignment && h) (ltb 0 (lowest_address heap blocks size alignment))).0 e in
@@ -318,21 +286,23 @@ module _ (heap : Span) (blocks : List Block) (size alignment flags : ℕ) where
         block_is = eb;
       }
 
-  pub grant_is : {handle : ℕ} {b : Block} → Allocation.Granted handle b ≡ allocation heap blocks size alignment flags → Grant handle b
+  pub grant_is : {g : Granted} → Some g ≡ allocation heap blocks size alignment flags → Grant g
   unfolding allocation
-  grant_is {handle} {b} e = go (grants heap blocks size alignment) refl e
+  grant_is {g} e = go (grants heap blocks size alignment) refl e
     where
       go : (t : Bool) → grants heap blocks size alignment ≡ t
-          → Allocation.Granted handle b
-          ≡ cond t (Allocation.Granted (free_handle blocks) (new_block (lowest_address heap blocks size alignment) size alignment flags)) Allocation.Refused
-          → Grant handle b
+          → Some g ≡ cond t (granted (free_handle blocks) (new_block (lowest_address heap blocks size alignment) size alignment flags)) None
+          → Grant g
       go true et q =
-          let eh : handle ≡ free_handle blocks = cc in
-          let eb : b ≡ new_block (lowest_address heap blocks size alignment) size alignment flags = cc in
-          grants_is et eh eb
+          let new : Granted = record {
+            handle = free_handle blocks;
+            block = new_block (lowest_address heap blocks size alignment) size alignment flags;
+          } in
+          let eg : g ≡ new = cc in
+          grants_is et (ap (λ (x : Granted). x.handle) eg) (ap (λ (x : Granted). x.block) eg)
       go false et q = absurd (true≢false cc)
 
-  pub granted_below : {handle : ℕ} {b : Block} → Allocation.Granted handle b ≡ allocation heap blocks size alignment flags → (1 ≤ handle) × (handle ≤ 32)
+  pub granted_below : {g : Granted} → Some g ≡ allocation heap blocks size alignment flags → (1 ≤ g.handle) × (g.handle ≤ 32)
   granted_below e = let g = grant_is e in let h = g.handle_is in let l = g.handle_least in (omega arith, omega (arith, free_most blocks))
 
 -- ---- a known handle, as the code tests it

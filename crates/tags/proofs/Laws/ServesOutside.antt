@@ -2,8 +2,9 @@
 use mathlib.Core.Bool.{true≢false}
 use mathlib.Core.List.{List}
 use mathlib.Core.Path.{◌≡◌, refl, sym, ap, ◌∙◌}
-use Prim.Native.Nat.{ℕ, ◌-◌, ◌<◌}
+use Prim.Native.Nat.{ℕ, ◌-◌}
 use lib.ListN.{get_or, set}
+use Rattle.std.proofs.Common.{Option, Some, None}
 use Rattle.words.specs.Numbers.{le, nth_word}
 use Rattle.board.specs.Items.{no_device, no_clock, no_voltage}
 use Rattle.board.specs.Memory.{no_block}
@@ -26,23 +27,18 @@ use Rattle.tags.proofs.Laws.Items.{power_absent, clock_absent, voltage_absent}
 use Rattle.tags.specs.Clock.{clock_after, clock_value}
 use Rattle.tags.specs.Fact.{fact_answer}
 use Rattle.tags.specs.Memory.{allocation, allocation_of, handle_after, handle_value}
-use Rattle.tags.specs.Named.{item_place, item_count, Named, absent_answer}
+use Rattle.tags.specs.Named.{item_place, Named, absent_answer}
 use Rattle.tags.specs.Outside.{outside_answer, outside_after}
 use Rattle.tags.specs.Place.{id_of, new_value}
 use Rattle.tags.specs.Power.{power_after, power_value}
 use Rattle.tags.specs.Temperature.{temperature_value}
 use Rattle.tags.specs.Voltage.{voltage_after, voltage_value}
-use Rattle.tags.specs.declared.memory.Allocation.{Allocation}
-use Rattle.tags.specs.declared.place.Place.{Place}
+use Rattle.tags.specs.declared.memory.Granted.{Granted}
 
 -- the tag says this answer and leaves the record b'
 pub record Serves (k : OutsideTag) (request : List ℕ) (b : Board) (answer : List ℕ) (b' : Board) : Type 0 where
   pub says : answer ≡ outside_answer k request b
   pub left : b' ≡ outside_after k request b
-
--- a place is within the items of its family
-pub within_items : {k : OutsideTag} {a : ℕ} {r : Place} → Named k a r → {k' : OutsideTag} → k ≡ k' → {i : ℕ} → r ≡ Place.At i → i < item_count k'
-within_items p ek e = rw ek at (rw e at p.within)
 
 -- a fact, whatever the request
 pub serves_fact : (request : List ℕ) (b : Board) {k : OutsideTag} {t : FactTag} → k ≡ OutsideTag.Fact t
@@ -53,7 +49,7 @@ serves_fact request b ek = rw ek (record { says = refl; left = refl })
 -- with the id and what a set asks for, as they were read from the request
 module _ (request : List ℕ) (b : Board) {a x : ℕ} (ea : a ≡ id_of request) (ex : x ≡ new_value request) where
   -- an id that is not listed: the answer of an absent item or of an unknown handle, and nothing changes
-  pub serves_unlisted : (k : OutsideTag) {r : Place} → Named k a r → r ≡ Place.Unlisted → Serves k request b (absent_answer k a) b
+  pub serves_unlisted : (k : OutsideTag) {r : Option ℕ} → Named k a r → r ≡ None → Serves k request b (absent_answer k a) b
   unfolding outside_answer outside_after
   serves_unlisted (OutsideTag.Fact t) p e = absurd (true≢false cc)
   serves_unlisted (OutsideTag.Power t) p e =
@@ -73,23 +69,23 @@ module _ (request : List ℕ) (b : Board) {a x : ℕ} (ea : a ≡ id_of request)
     serves_temperature ek e = rw ek (record { says = rw (e, ea); left = refl })
 
     -- an allocate, with its third word
-    module _ (ek : k ≡ OutsideTag.Allocate) {f : ℕ} (ef : f ≡ nth_word request 2) {h : Span} (eh : b.heap ≡ h) {g : Allocation}
+    module _ (ek : k ≡ OutsideTag.Allocate) {f : ℕ} (ef : f ≡ nth_word request 2) {h : Span} (eh : b.heap ≡ h) {g : Option Granted}
         (eg : g ≡ allocation h b.blocks a x f) where
       came_to : g ≡ allocation_of request b.heap b.blocks
       came_to = rw (eg, ← eh, ea, ex, ef)
 
-      pub serves_refused : g ≡ Allocation.Refused → Serves k request b (le 4 0) b
+      pub serves_refused : g ≡ None → Serves k request b (le 4 0) b
       unfolding outside_answer outside_after
       serves_refused e = rw ek (record { says = rw (← came_to, e); left = rw (← came_to, e) })
 
-      pub serves_granted : {handle : ℕ} {c : Block} → g ≡ Allocation.Granted handle c → {i : ℕ} → i ≡ handle - 1
-          → Serves k request b (le 4 handle) (with_blocks b (set b.blocks i c))
+      pub serves_granted : {c : Granted} → g ≡ Some c → {i : ℕ} → i ≡ c.handle - 1
+          → Serves k request b (le 4 c.handle) (with_blocks b (set b.blocks i c.block))
       unfolding outside_answer outside_after
       serves_granted e ei = rw ek (record { says = rw (← came_to, e); left = rw (← came_to, e, ei) })
 
     -- the item at the place
-    module _ {r : Place} (p : Named k a r) {i : ℕ} (e : r ≡ Place.At i) where
-      placed : (k' : OutsideTag) → k ≡ k' → item_place k' a ≡ Place.At i
+    module _ {r : Option ℕ} (p : Named k a r) {i : ℕ} (e : r ≡ Some i) where
+      placed : (k' : OutsideTag) → k ≡ k' → item_place k' a ≡ Some i
       placed k' ek = ap (λ (z : OutsideTag). item_place z a) (sym ek) ∙ sym p.is ∙ e
 
       pub serves_power : {t : PowerTag} → k ≡ OutsideTag.Power t → {d : Device} → d ≡ power_after t x (get_or b.devices i no_device) → {n : ℕ}
