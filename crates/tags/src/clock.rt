@@ -1,28 +1,11 @@
 // Clocks.
 ghost use Rattle.std.specs.Prelude.{◌≡◌};
-ghost use Rattle.board.specs.Items.{no_clock};
 ghost use Rattle.tags.specs.Clock.{settled, clock_after, clock_value};
 
 use crate::state::{if_present, set_state, state_of};
-use board::items::{Clock, State};
+use board::items::Clock;
 use table::kinds::ClockTag;
 use words::clamp::clamped;
-
-// The clock of an id that is not listed.
-pub fn absent_clock() -> Clock
-    ensures { result ≡ no_clock }
-{
-    let state = State {
-        exists: false,
-        on: false,
-    };
-    Clock {
-        state,
-        rate: 0,
-        min: 0,
-        max: 0,
-    }
-}
 
 // The clock with a rate set.
 #[tactic(auto, unfolding(crate::specs::Clock::settled))]

@@ -1,15 +1,15 @@
 // GPU memory: allocate, and the tags that name a block by its handle.
 ghost use Rattle.std.specs.Prelude.{true, not, position, ◌≡◌, ◌<◌};
-ghost use Rattle.words.specs.Align.{one_bit, aligned};
+ghost use Rattle.words.specs.Align.{aligned};
 ghost use Rattle.board.specs.Memory.{valid_heap};
 ghost use Rattle.tags.specs.Memory.{new_block, allocation};
 ghost use Rattle.tags.specs.Memory.{handle_after, handle_value};
 ghost use Rattle.tags.specs.Raised.{raised_over, Raised};
 
 use board::facts::Span;
-use board::memory::{Block, bytes_of, end, is_clear_of, no_block};
+use board::memory::{Block, is_clear_of};
 use table::kinds::HandleTag;
-use words::align::{lowest_multiple, one_bit};
+use words::align::Alignment;
 
 // What an allocate is granted: a handle and its new block.
 #[derive(Clone, Copy)]
@@ -34,21 +34,21 @@ fn new_block(base: u32, size: u32, alignment: u32, flags: u32) -> Block
 
 // The address; or, where the block at a place is in the way of `size` bytes from it on, the lowest multiple of the
 // alignment behind the block.
-fn raised_over(b: Block, address: u64, size: u32, alignment: u32) -> u64
-    requires { (one_bit alignment ≡ true) × (address < 0x3_0000_0000) }
-    ensures { (result ≡ raised_over b address size alignment) × (result < 0x3_0000_0000) }
+fn raised_over(b: Block, address: u64, size: u32, alignment: Alignment) -> u64
+    requires { address < 0x3_0000_0000 }
+    ensures { (result ≡ raised_over b address size alignment.value) × (result < 0x3_0000_0000) }
 {
     if is_clear_of(address, size, b) {
         address
     } else {
-        lowest_multiple(end(bytes_of(b)), alignment)
+        alignment.lowest_multiple(b.bytes().end())
     }
 }
 
 // The address, raised over one block after the other.
-fn raised_over_all(blocks: &[Block; 32], address: u64, size: u32, alignment: u32) -> u64
-    requires { (one_bit alignment ≡ true) × (aligned alignment address ≡ true) × (address < 0x3_0000_0000) }
-    ensures { Raised blocks.now address size alignment result }
+fn raised_over_all(blocks: &[Block; 32], address: u64, size: u32, alignment: Alignment) -> u64
+    requires { (aligned alignment.value address ≡ true) × (address < 0x3_0000_0000) }
+    ensures { Raised blocks.now address size alignment.value result }
 {
     let mut a = address;
     for b in blocks {
@@ -76,16 +76,17 @@ pub fn allocate(
     requires { valid_heap heap ≡ true }
     ensures { result ≡ allocation heap blocks.now size alignment flags }
 {
-    if size == 0 || !one_bit(alignment) {
+    if size == 0 {
         return None;
     }
+    let alignment = Alignment::new(alignment)?;
     let place = free_place(blocks)?;
-    let mut a = lowest_multiple(heap.base as u64, alignment);
-    while a + size as u64 <= end(heap) {
+    let mut a = alignment.lowest_multiple(heap.base as u64);
+    while a + size as u64 <= heap.end() {
         let raised = raised_over_all(blocks, a, size, alignment);
         if raised == a {
             let handle = place as u32 + 1;
-            let block = new_block(a as u32, size, alignment, flags);
+            let block = new_block(a as u32, size, alignment.value, flags);
             return Some(Granted { handle, block });
         }
         a = raised;
@@ -104,7 +105,7 @@ pub fn handle_after(b: Block, tag: HandleTag) -> Block
     match tag {
         HandleTag::Lock => Block { locked: true, ..b },
         HandleTag::Unlock => Block { locked: false, ..b },
-        HandleTag::Release => no_block(),
+        HandleTag::Release => Block::default(),
     }
 }
 

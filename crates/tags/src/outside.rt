@@ -5,13 +5,15 @@ ghost use Rattle.message.specs.Helpers.{InMessage};
 ghost use Rattle.answers.specs.Writing.{answered};
 ghost use Rattle.tags.specs.Named.{Named, absent_answer};
 
-use crate::clock::{absent_clock, clock_value};
+use crate::clock::clock_value;
 use crate::memory::handle_value;
 use crate::place::place_of;
-use crate::power::{absent_device, power_value};
-use crate::voltage::{absent_voltage, voltage_value};
+use crate::power::power_value;
+use crate::voltage::voltage_value;
 use answers::writing::{put_pair, put_word};
-use board::memory::no_block;
+use board::items::{Clock, Device, Voltage};
+use board::memory::Block;
+use message::walk::Tag;
 use table::kinds::OutsideTag;
 
 // The place of the item that a tag names. A fact and an allocate have no id and the temperature answers every id:
@@ -28,26 +30,26 @@ pub fn item_place(tag: OutsideTag, id: u32) -> Option<usize>
     }
 }
 
-// Answers the tag at `at`, whose value has `size` bytes, of an id that is not listed: with the value of an absent
+// Answers a tag of an id that is not listed: with the value of an absent
 // item, or as of an unknown handle. A fact, the temperature and an allocate are always listed. No entry point: the
 // walk above has found the tag in the message.
-pub fn put_absent(msg: &mut [u8], at: usize, size: u32, tag: OutsideTag, id: u32)
-    requires { InMessage (length msg.old) at size }
-    ensures { msg.new ≡ answered at size (absent_answer tag id) msg.old }
+pub fn put_absent(msg: &mut [u8], tag: Tag, outside: OutsideTag, id: u32)
+    requires { InMessage (length msg.old) tag.at tag.size }
+    ensures { msg.new ≡ answered tag.at tag.size (absent_answer outside id) msg.old }
 {
-    match tag {
+    match outside {
         OutsideTag::Power(kind) => {
-            put_pair(msg, at, size, id, power_value(absent_device(), kind));
+            put_pair(msg, tag, id, power_value(Device::default(), kind));
         }
         OutsideTag::Clock(kind) => {
-            put_pair(msg, at, size, id, clock_value(absent_clock(), kind));
+            put_pair(msg, tag, id, clock_value(Clock::default(), kind));
         }
         OutsideTag::Voltage(kind) => {
-            put_pair(msg, at, size, id, voltage_value(absent_voltage(), kind));
+            put_pair(msg, tag, id, voltage_value(Voltage::default(), kind));
         }
-        OutsideTag::Handle(kind) => put_word(msg, at, size, handle_value(no_block(), kind)),
+        OutsideTag::Handle(kind) => put_word(msg, tag, handle_value(Block::default(), kind)),
         OutsideTag::Fact(_) | OutsideTag::Temperature(_) | OutsideTag::Allocate => {
-            put_pair(msg, at, size, id, 0);
+            put_pair(msg, tag, id, 0);
         }
     }
 }

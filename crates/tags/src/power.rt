@@ -1,22 +1,10 @@
 // Power devices.
 ghost use Rattle.std.specs.Prelude.{◌≡◌};
-ghost use Rattle.board.specs.Items.{no_device};
 ghost use Rattle.tags.specs.Power.{power_after, power_value};
 
 use crate::state::{if_present, set_state, state_of};
-use board::items::{Device, State};
+use board::items::Device;
 use table::kinds::PowerTag;
-
-// The device of an id that is not listed.
-pub fn absent_device() -> Device
-    ensures { result ≡ no_device }
-{
-    let state = State {
-        exists: false,
-        on: false,
-    };
-    Device { state, timing: 0 }
-}
 
 // The device as a tag leaves it, x being the state it sets.
 #[tactic(auto, unfolding(crate::specs::Power::power_after))]

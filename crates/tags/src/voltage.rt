@@ -1,36 +1,23 @@
 // Voltages.
 ghost use Rattle.std.specs.Prelude.{◌≡◌};
-ghost use Rattle.board.specs.Items.{no_voltage};
 ghost use Rattle.tags.specs.Voltage.{max_offset, min_offset, voltage_after, voltage_value};
 
 use board::items::Voltage;
 use table::kinds::VoltageTag;
 use words::clamp::clamped;
 
-// The voltage of an id that is not listed.
-pub fn absent_voltage() -> Voltage
-    ensures { result ≡ no_voltage }
-{
-    Voltage {
-        valid: false,
-        value: 0,
-        min: 0,
-        max: 0,
-    }
-}
-
 #[tactic(auto, using(crate::proofs::Laws::Offsets::max_offset_is))]
 fn max_offset(mv: u32) -> u32
     ensures { result ≡ max_offset mv }
 {
-    ((mv as u64 / 25 + 0xffff_ffd0) % 0x1_0000_0000) as u32
+    (mv / 25).wrapping_sub(48)
 }
 
 #[tactic(auto, using(crate::proofs::Laws::Offsets::min_offset_is))]
 fn min_offset(mv: u32) -> u32
     ensures { result ≡ min_offset mv }
 {
-    (((mv as u64 + 24) / 25 + 0xffff_ffd0) % 0x1_0000_0000) as u32
+    mv.div_ceil(25).wrapping_sub(48)
 }
 
 // The voltage as a tag leaves it, x being what a set asks for.

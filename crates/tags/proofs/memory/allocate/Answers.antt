@@ -1,4 +1,4 @@
-use mathlib.Core.Path.{sym, ◌∙◌}
+use mathlib.Core.Path.{◌≡◌, sym, ◌∙◌}
 use native.Mathlib.Omega.{arith}
 use Rattle.words.proofs.Laws.Align.{one_bit_least, up_below}
 use Rattle.board.proofs.Laws.Memory.{heap_is}
@@ -6,20 +6,20 @@ use Rattle.tags.proofs.Laws.Memory.{size_refused, alignment_refused, place_refus
 use Rattle.tags.proofs.Laws.Memory.{search_start, search_granted, address_none}
 use borrow.Author.Rules.{rules}
 use Rattle.tags.proofs.memory.allocate.Goals as goal
-use Rattle.tags.proofs.memory.allocate.Goals.{then-size-eq0-via-then-size-eq0, then-size-eq0-via-else-size-eq0+then-not-one_bit}
 
 pub returns-then-size-eq0 : goal.returns-then-size-eq0
-returns-then-size-eq0 c = elim c.then-size-eq0.branch [
-  | then-size-eq0-via-then-size-eq0 w ↦ size_refused _ _ _ _ _ w.if-size-eq0.true
-  | then-size-eq0-via-else-size-eq0+then-not-one_bit w ↦ alignment_refused _ _ _ _ _ (sym w.one_bit.ensures ∙ w.if-not-one_bit.true)
-]
+returns-then-size-eq0 c = size_refused _ _ _ _ _ c.if-size-eq0.true
+
+pub returns-in_err-alignment : goal.returns-in_err-alignment
+returns-in_err-alignment c = c.from_residual.ensures ∙ alignment_refused _ _ _ _ _ (search rules)
 
 pub returns-in_err-place : goal.returns-in_err-place
-returns-in_err-place c = c.from_residual.ensures ∙ place_refused _ _ _ _ _ (sym (place_found _ (search rules) c.in_err-place.ensures))
+returns-in_err-place c = c.from_residual-in_err-place.ensures ∙ place_refused _ _ _ _ _ (sym (place_found _ (search rules) c.in_err-place.ensures))
 
 pub loop-a-init : goal.loop-a-init
 loop-a-init c =
-    let single = sym c.one_bit.ensures ∙ c.if-not-one_bit.false in
+    let alignment = c.in_ok-alignment.alignment in
+    let single = alignment.one_bit in
     search_start _ _ _ _ single _ c.lowest_multiple-a.ensures
     (omega (arith, up_below _ c.args.heap.base (one_bit_least _ single)))
 
@@ -31,14 +31,19 @@ overflow_cast-a c =
 
 pub returns-then-raised-a : goal.returns-then-raised-a
 returns-then-raised-a c =
-    let single = sym c.one_bit.ensures ∙ c.if-not-one_bit.false in
-    search_granted _ _ _ _ c.requires (omega (arith, c.if-size-eq0.false)) single c.lowest_multiple-a.ensures c.loop-a.invariant
+    let alignment = c.in_ok-alignment.alignment in
+    let single = alignment.one_bit in
+    let same : alignment.value ≡ c.args.alignment = search rules in
+    rw (← same)
+    (search_granted _ _ _ _ c.requires (omega (arith, c.if-size-eq0.false)) single c.lowest_multiple-a.ensures c.loop-a.invariant
     _ (omega (arith, c.end.ensures.0)) _ (place_found _ (search rules) c.in_ok-place.ensures) c.raised_over_all-raised.ensures
-    c.if-raised-a.true c.new_block-block.ensures
+    c.if-raised-a.true c.new_block-block.ensures)
 
 pub returns : goal.returns
 returns c =
-    let single = sym c.one_bit.ensures ∙ c.if-not-one_bit.false in
-    address_refused _ _ _ _ _
+    let alignment = c.in_ok-alignment.alignment in
+    let single = alignment.one_bit in
+    let same : alignment.value ≡ c.args.alignment = search rules in
+    rw (← same) (address_refused _ _ _ _ _
     (address_none _ _ _ _ c.requires (omega (arith, c.if-size-eq0.false)) single c.lowest_multiple-a.ensures
-    c.loop-a.invariant (omega (arith, c.end.ensures.0)))
+    c.loop-a.invariant (omega (arith, c.end.ensures.0))))
