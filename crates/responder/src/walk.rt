@@ -79,7 +79,7 @@ pub fn serve_tags(board: Board, msg: &mut [u8], size: usize, group: Decision) ->
             Ask::Group(frame, count) => {
                 let request = &msg[value..value + count];
                 operation = note(operation, frame, request);
-                put_group(msg, tag.at, tag.size, group, frame);
+                put_group(msg, tag, group, frame);
             }
             Ask::Outside(outside, count) => {
                 let request = &msg[value..value + count];
@@ -87,47 +87,47 @@ pub fn serve_tags(board: Board, msg: &mut [u8], size: usize, group: Decision) ->
                 let x = nth_word(request, 1);
                 let Some(i) = item_place(outside, id) else {
                     // No item has this id: the answer of an absent one, and nothing changes.
-                    put_absent(msg, tag.at, tag.size, outside, id);
+                    put_absent(msg, tag, outside, id);
                     p = next;
                     continue;
                 };
                 match outside {
                     OutsideTag::Fact(fact) => {
-                        put_fact(msg, tag.at, tag.size, b.facts, &b.line, fact);
+                        put_fact(msg, tag, b.facts, &b.line, fact);
                     }
                     OutsideTag::Power(power) => {
                         let d = power_after(b.devices[i], power, x);
                         b.devices[i] = d;
-                        put_pair(msg, tag.at, tag.size, id, power_value(d, power));
+                        put_pair(msg, tag, id, power_value(d, power));
                     }
                     OutsideTag::Clock(clock) => {
                         let c = clock_after(b.clocks[i], clock, x);
                         b.clocks[i] = c;
-                        put_pair(msg, tag.at, tag.size, id, clock_value(c, clock));
+                        put_pair(msg, tag, id, clock_value(c, clock));
                     }
                     OutsideTag::Voltage(voltage) => {
                         let v = voltage_after(b.voltages[i], voltage, x);
                         b.voltages[i] = v;
-                        put_pair(msg, tag.at, tag.size, id, voltage_value(v, voltage));
+                        put_pair(msg, tag, id, voltage_value(v, voltage));
                     }
                     OutsideTag::Temperature(temperature) => {
                         let n = temperature_value(b.temperature, temperature, id);
-                        put_pair(msg, tag.at, tag.size, id, n);
+                        put_pair(msg, tag, id, n);
                     }
                     OutsideTag::Allocate => {
                         let flags = nth_word(request, 2);
                         match allocate(heap, &b.blocks, id, x, flags) {
                             Some(granted) => {
                                 b.blocks[granted.handle as usize - 1] = granted.block;
-                                put_word(msg, tag.at, tag.size, granted.handle);
+                                put_word(msg, tag, granted.handle);
                             }
-                            None => put_word(msg, tag.at, tag.size, 0),
+                            None => put_word(msg, tag, 0),
                         }
                     }
                     OutsideTag::Handle(kind) => {
                         let block = b.blocks[i];
                         b.blocks[i] = handle_after(block, kind);
-                        put_word(msg, tag.at, tag.size, handle_value(block, kind));
+                        put_word(msg, tag, handle_value(block, kind));
                     }
                 }
             }
