@@ -31,17 +31,12 @@ struct Buffers {
 }
 
 // The settings that an operation proposes, where they are supported.
-#[tactic(auto, unfolding(crate::specs::Decision::supported_from, board::specs::Display::supported))]
+#[tactic(auto, unfolding(crate::specs::Decision::supported_from))]
 fn proposed(d: ValidDisplay, o: Operation) -> Option<PossibleSettings>
     ensures { MatchOption result (supported_from d.display o.proposal ≡ false)
         (λ p. (supported_from d.display o.proposal ≡ true) × (p.settings ≡ o.proposal)) }
 {
-    let region = d.display.region;
-    let proposal = PossibleSettings::new(o.proposal)?;
-    if region.size < proposal.need() {
-        return None;
-    }
-    Some(proposal)
+    PossibleSettings::supported(d.display.region.size, o.proposal)
 }
 
 // The buffer that an allocate of this alignment places, where the region has room for it.
