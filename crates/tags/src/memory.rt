@@ -58,7 +58,7 @@ fn raised_over_all(blocks: &[Block; 32], address: u64, size: u32, alignment: u32
 }
 
 // The lowest place that is free.
-fn free_place(blocks: &[Block; 32]) -> Option<usize>
+fn lowest_free_place(blocks: &[Block; 32]) -> Option<usize>
     ensures { result ≡ position (λ b. not b.taken) blocks.now }
 {
     blocks.iter().position(|b| !b.taken)
@@ -79,7 +79,7 @@ pub fn allocate(
     if size == 0 || !one_bit(alignment) {
         return None;
     }
-    let place = free_place(blocks)?;
+    let place = lowest_free_place(blocks)?;
     let mut a = lowest_multiple(heap.base as u64, alignment);
     while a + size as u64 <= end(heap) {
         let raised = raised_over_all(blocks, a, size, alignment);

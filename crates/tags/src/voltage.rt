@@ -19,18 +19,20 @@ pub fn absent_voltage() -> Voltage
     }
 }
 
-#[tactic(auto, using(crate::proofs::Laws::Offsets::max_offset_is))]
+// The offset of a maximum from 1,200 mV, 48 steps of 25 mV, rounded down to a step.
+#[tactic(auto, unfolding(crate::specs::Voltage::max_offset))]
 fn max_offset(mv: u32) -> u32
     ensures { result ≡ max_offset mv }
 {
-    ((mv as u64 / 25 + 0xffff_ffd0) % 0x1_0000_0000) as u32
+    (mv / 25).wrapping_sub(48)
 }
 
-#[tactic(auto, using(crate::proofs::Laws::Offsets::min_offset_is))]
+// The offset of a minimum, rounded up to a step.
+#[tactic(auto, unfolding(crate::specs::Voltage::min_offset))]
 fn min_offset(mv: u32) -> u32
     ensures { result ≡ min_offset mv }
 {
-    (((mv as u64 + 24) / 25 + 0xffff_ffd0) % 0x1_0000_0000) as u32
+    mv.div_ceil(25).wrapping_sub(48)
 }
 
 // The voltage as a tag leaves it, x being what a set asks for.
