@@ -10,6 +10,7 @@ use borrow.Author.Tests.{ne_eqb, not-true}
 use lib.Dec.{eqb}
 use lib.ListN.{length, get_or, set, length-set}
 use lib.Seq.{set-get_or}
+use Rattle.std.proofs.Common.{Option, Some, None}
 use Rattle.words.proofs.Laws.Numbers.{unle_le}
 use Rattle.words.specs.Numbers.{le, unle, nth_word, word}
 use Rattle.message.specs.Builder.{Call}
@@ -26,8 +27,7 @@ use Rattle.tags.specs.Memory.{block_place, granted_handle, blocks_with, allocati
 use Rattle.tags.specs.Memory.{taken_value, unknown_value, handle_value}
 use Rattle.tags.specs.Outside.{outside_answer, outside_after}
 use Rattle.tags.specs.Place.{change, item, id_of}
-use Rattle.tags.specs.declared.memory.Allocation.{Allocation}
-use Rattle.tags.specs.declared.place.Place.{Place}
+use Rattle.tags.specs.declared.memory.Granted.{Granted}
 use Rattle.display.specs.declared.decision.Decision.{Decision}
 use Rattle.requests.proofs.Laws.Endings.{ending_outcome}
 use Rattle.requests.specs.Requests.{Request, passed, short, asks, WalkOutcome}
@@ -58,21 +58,21 @@ size_free b e = ap (λ (t : Bool). cond t b.size 0) e
 
 -- ---- an allocate
 module _ (b : Board) (places : length b.blocks ≡ 32) (request : List ℕ) where
-  allocate_held : (g : Allocation) → g ≡ allocation_of request b.heap b.blocks
+  allocate_held : (g : Option Granted) → g ≡ allocation_of request b.heap b.blocks
       → held (blocks_with g b.blocks) ≡ held b.blocks + cond (eqb (unle (le 4 (granted_handle g))) 0) 0 (nth_word request 0)
-  allocate_held (Allocation.Granted handle c) e =
+  allocate_held (Some g) e =
       let k = grant_is b.heap b.blocks _ _ _ e in
       let m = free_most b.blocks in
       let eh = k.handle_is in
       let l = k.handle_least in
-      let f : (get_or b.blocks (handle - 1) no_block).taken ≡ false = not-true _ (rw eh ((free_is b.blocks).passes (omega arith))) in
-      let h = held_set b.blocks (handle - 1) c (omega arith) in
-      let z = size_free (get_or b.blocks (handle - 1) no_block) f in
-      let s : size_in c ≡ nth_word request 0 = ap size_in k.block_is in
-      let q : eqb (unle (le 4 handle)) 0 ≡ false = ap (λ (n : ℕ). eqb n 0) (unle_le 4 handle (omega arith)) ∙ ne_eqb handle 0 (λ w. omega arith) in
-      let t : cond (eqb (unle (le 4 handle)) 0) 0 (nth_word request 0) ≡ nth_word request 0 = ap (λ (x : Bool). cond x 0 (nth_word request 0)) q in
+      let f : (get_or b.blocks (g.handle - 1) no_block).taken ≡ false = not-true _ (rw eh ((free_is b.blocks).passes (omega arith))) in
+      let h = held_set b.blocks (g.handle - 1) g.block (omega arith) in
+      let z = size_free (get_or b.blocks (g.handle - 1) no_block) f in
+      let s : size_in g.block ≡ nth_word request 0 = ap size_in k.block_is in
+      let q : eqb (unle (le 4 g.handle)) 0 ≡ false = ap (λ (n : ℕ). eqb n 0) (unle_le 4 g.handle (omega arith)) ∙ ne_eqb g.handle 0 (λ w. omega arith) in
+      let t : cond (eqb (unle (le 4 g.handle)) 0) 0 (nth_word request 0) ≡ nth_word request 0 = ap (λ (x : Bool). cond x 0 (nth_word request 0)) q in
       omega arith
-  allocate_held Allocation.Refused e = omega arith
+  allocate_held None e = omega arith
 
 -- ---- a tag that names a block by its handle
 -- what it releases, by the number that it answers and the size of the block
@@ -130,11 +130,11 @@ nothing : (t : Bool) → ◌≡◌ {A = ℕ} (cond t 0 0) 0
 nothing true = refl
 nothing false = refl
 
-place_held : (blocks : List Block) (t : HandleTag) (at : Place)
+place_held : (blocks : List Block) (t : HandleTag) (at : Option ℕ)
     → held (change no_block (handle_after t) blocks at) + drops t (unle (le 4 (handle_value t (item no_block blocks at)))) (item no_block blocks at).size
     ≡ held blocks
-place_held blocks t (Place.At i) = handle_held blocks i t (get_or blocks i no_block).taken refl
-place_held blocks t Place.Unlisted = none_dropped t
+place_held blocks t (Some i) = handle_held blocks i t (get_or blocks i no_block).taken refl
+place_held blocks t None = none_dropped t
   where
     none_dropped : (t : HandleTag) → held blocks + drops t (unle (le 4 (handle_value t no_block))) 0 ≡ held blocks
     none_dropped HandleTag.Lock = omega arith
@@ -171,14 +171,14 @@ outside_places : (b : Board) (k : OutsideTag) (request : List ℕ) → length (o
 unfolding outside_after
 outside_places b OutsideTag.Allocate request = go (allocation_of request b.heap b.blocks)
   where
-    go : (g : Allocation) → length (blocks_with g b.blocks) ≡ length b.blocks
-    go (Allocation.Granted handle c) = length-set b.blocks (handle - 1) c
-    go Allocation.Refused = refl
+    go : (g : Option Granted) → length (blocks_with g b.blocks) ≡ length b.blocks
+    go (Some g) = length-set b.blocks (g.handle - 1) g.block
+    go None = refl
 outside_places b (OutsideTag.Handle t) request = go (block_place (id_of request))
   where
-    go : (at : Place) → length (change no_block (handle_after t) b.blocks at) ≡ length b.blocks
-    go (Place.At i) = length-set b.blocks i (handle_after t (get_or b.blocks i no_block))
-    go Place.Unlisted = refl
+    go : (at : Option ℕ) → length (change no_block (handle_after t) b.blocks at) ≡ length b.blocks
+    go (Some i) = length-set b.blocks i (handle_after t (get_or b.blocks i no_block))
+    go None = refl
 outside_places b (OutsideTag.Fact t) request = refl
 outside_places b (OutsideTag.Power t) request = refl
 outside_places b (OutsideTag.Clock t) request = refl

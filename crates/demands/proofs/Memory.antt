@@ -7,6 +7,7 @@ use native.Mathlib.Decide.{ℕ_discrete}
 use native.Mathlib.Omega.{arith}
 use borrow.Author.Tests.{eqb-true, eq-eqb, not-true}
 use lib.ListN.{get_or}
+use Rattle.std.proofs.Common.{None}
 use Rattle.words.proofs.Laws.Every.{every_at, every_from, pairs_at}
 use Rattle.words.specs.Align.{one_bit, aligned}
 use Rattle.board.proofs.Laws.Memory.{apart_is, is_apart, clear_of_none, disjoint_swap, disjoint_none, memory_parts}
@@ -17,8 +18,7 @@ use Rattle.board.specs.declared.memory.Block.{Block}
 use Rattle.board.specs.declared.record.Board.{Board}
 use Rattle.tags.proofs.Laws.Memory.{Fits, fits_is, fits_by, address_is, free_is, free_most, grants_is}
 use Rattle.tags.proofs.Laws.Memory.{size_refused, alignment_refused, place_refused, address_refused, is_granted}
-use Rattle.tags.specs.Memory.{is_free, free_handle, lowest_address, grants, new_block, allocation, granted_handle}
-use Rattle.tags.specs.declared.memory.Allocation.{Allocation}
+use Rattle.tags.specs.Memory.{is_free, free_handle, lowest_address, grants, new_block, with_handle, allocation, granted_handle}
 use Rattle.responder.proofs.Laws.Responding.{valid_heap_of}
 use Rattle.responder.specs.Reply.{reply}
 use Rattle.demands.proofs.Kept.{kept}
@@ -95,12 +95,13 @@ module _ (b : Board) (v : valid b ≡ true) (size alignment flags : ℕ) where
   unfolding allocation
   either_handle = go (grants b.heap b.blocks size alignment) refl
     where
+      new : Block
+      new = new_block (lowest_address b.heap b.blocks size alignment) size alignment flags
+
       go : (t : Bool) → grants b.heap b.blocks size alignment ≡ t
-          → (granted_handle (cond t (Allocation.Granted (free_handle b.blocks) (new_block (lowest_address b.heap b.blocks size alignment) size alignment
-          flags)) Allocation.Refused) ≡ 0)
-          ⊎ ((granted_handle (cond t (Allocation.Granted (free_handle b.blocks) (new_block (lowest_address b.heap b.blocks size alignment) size alignment
-          flags)) Allocation.Refused) ≡ free_handle b.blocks) × (0 < free_handle b.blocks))
-      go true e = inr (refl, (grants_is b.heap b.blocks size alignment flags e refl refl).handle_least)
+          → (granted_handle (cond t (with_handle (free_handle b.blocks) new) None) ≡ 0)
+          ⊎ ((granted_handle (cond t (with_handle (free_handle b.blocks) new) None) ≡ free_handle b.blocks) × (0 < free_handle b.blocks))
+      go true e = inr (refl, (grants_is b.heap b.blocks size alignment flags e {g = record { handle = free_handle b.blocks; block = new }} refl refl).handle_least)
       go false e = inl refl
 
   free_place : 0 < free_handle b.blocks → (block_at b (free_handle b.blocks - 1)).taken ≡ false
@@ -120,7 +121,7 @@ module _ (b : Board) (v : valid b ≡ true) (size alignment flags : ℕ) where
           absurd (omega (arith, h.1))
 
   -- a reason leads to handle 0
-  refused_zero : Allocation.Refused ≡ allocation b.heap b.blocks size alignment flags → handle_for b size alignment flags ≡ 0
+  refused_zero : None ≡ allocation b.heap b.blocks size alignment flags → handle_for b size alignment flags ≡ 0
   refused_zero e = ap granted_handle (sym e)
 
   zero_by : RefusedFor b size alignment → handle_for b size alignment flags ≡ 0

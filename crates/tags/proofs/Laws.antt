@@ -2,7 +2,6 @@ pub mod Items
 pub mod Kept
 pub mod Alone
 pub mod AnswerFits
-pub mod Offsets
 pub mod Places
 pub mod ServesOutside
 pub mod Memory

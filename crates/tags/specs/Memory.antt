@@ -46,14 +46,14 @@ abbrev pub new_block : (base size alignment flags : ℕ) → Block
 new_block base size alignment flags =
     record { taken = true; locked = false; base = base; size = size; alignment = alignment; flags = flags }
 
--- the block's handle and the block; none where it is refused
+-- a new block with its handle
+abbrev pub with_handle : (handle : ℕ) → Block → Option Granted
+with_handle handle b = Some (record { handle = handle; block = b })
+
 unfoldable pub allocation : (heap : Span) → List Block → (size alignment flags : ℕ) → Option Granted
 allocation heap blocks size alignment flags =
     cond (grants heap blocks size alignment)
-    (Some (record {
-      handle = free_handle blocks;
-      block = new_block (lowest_address heap blocks size alignment) size alignment flags;
-    }))
+    (with_handle (free_handle blocks) (new_block (lowest_address heap blocks size alignment) size alignment flags))
     None
 
 -- it answers the handle, 0 where it is refused

@@ -58,7 +58,7 @@ fn raised_over_all(blocks: &[Block; 32], address: u64, size: u32, alignment: Ali
 }
 
 // The lowest place that is free.
-fn free_place(blocks: &[Block; 32]) -> Option<usize>
+fn lowest_free_place(blocks: &[Block; 32]) -> Option<usize>
     ensures { result ≡ position (λ b. not b.taken) blocks.now }
 {
     blocks.iter().position(|b| !b.taken)
@@ -80,7 +80,7 @@ pub fn allocate(
         return None;
     }
     let alignment = Alignment::new(alignment)?;
-    let place = free_place(blocks)?;
+    let place = lowest_free_place(blocks)?;
     let mut a = alignment.lowest_multiple(heap.base as u64);
     while a + size as u64 <= heap.end() {
         let raised = raised_over_all(blocks, a, size, alignment);

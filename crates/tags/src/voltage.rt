@@ -6,14 +6,16 @@ use board::items::Voltage;
 use table::kinds::VoltageTag;
 use words::clamp::clamped;
 
-#[tactic(auto, using(crate::proofs::Laws::Offsets::max_offset_is))]
+// The offset of a maximum from 1,200 mV, 48 steps of 25 mV, rounded down to a step.
+#[tactic(auto, unfolding(crate::specs::Voltage::max_offset))]
 fn max_offset(mv: u32) -> u32
     ensures { result ≡ max_offset mv }
 {
     (mv / 25).wrapping_sub(48)
 }
 
-#[tactic(auto, using(crate::proofs::Laws::Offsets::min_offset_is))]
+// The offset of a minimum, rounded up to a step.
+#[tactic(auto, unfolding(crate::specs::Voltage::min_offset))]
 fn min_offset(mv: u32) -> u32
     ensures { result ≡ min_offset mv }
 {

@@ -24,7 +24,7 @@ use Rattle.board.specs.Memory.{span, inside, apart, no_block, bytes_of, clear_of
 use Rattle.board.specs.declared.facts.Span.{Span}
 use Rattle.board.specs.declared.memory.Block.{Block}
 use Rattle.table.specs.declared.kinds.HandleTag.{HandleTag}
-use Rattle.tags.specs.Memory.{handle_count, is_free, free_handle, fits_at, lowest_address, grants, new_block, allocation, with_lock, taken_after, handle_after}
+use Rattle.tags.specs.Memory.{handle_count, is_free, free_handle, fits_at, lowest_address, grants, new_block, with_handle, allocation, with_lock, taken_after, handle_after}
 use Rattle.tags.specs.declared.memory.Granted.{Granted}
 use Rattle.tags.specs.Raised.{raised_over, Raised}
 
@@ -176,9 +176,6 @@ module _ (blocks : List Block) (address size alignment : ℕ) where
             }
 
 -- ---- what an allocate comes to, as the code tests it: refused for each of four reasons, else granted
-abbrev granted : (handle : ℕ) → Block → Option Granted
-granted handle b = Some (record { handle = handle; block = b })
-
 module _ (heap : Span) (blocks : List Block) (size alignment flags : ℕ) where
   not_granted : grants heap blocks size alignment ≡ false → None ≡ allocation heap blocks size alignment flags
   unfolding allocation
@@ -201,7 +198,7 @@ module _ (heap : Span) (blocks : List Block) (size alignment flags : ℕ) where
   address_refused z = not_granted (rw (le-ltb 0 (lowest_address heap blocks size alignment) (omega arith), and-false))
 
   pub is_granted : 0 < size → one_bit alignment ≡ true → 0 < free_handle blocks → 0 < lowest_address heap blocks size alignment
-      → granted (free_handle blocks) (new_block (lowest_address heap blocks size alignment) size alignment flags) ≡ allocation heap blocks size alignment flags
+      → with_handle (free_handle blocks) (new_block (lowest_address heap blocks size alignment) size alignment flags) ≡ allocation heap blocks size alignment flags
   unfolding grants allocation
   is_granted p o h a = rw (lt-ltb 0 size p, o, lt-ltb 0 (free_handle blocks) h, lt-ltb 0 (lowest_address heap blocks size alignment) a)
 
@@ -244,11 +241,11 @@ module _ (heap : Span) (blocks : List Block) (size alignment : ℕ) (v : valid_h
       (λ y _ t. let f = (fits_is heap blocks size alignment y t).last in let b = before y t in absurd (omega arith)))
 
   pub search_granted : (flags : ℕ) → a + size ≤ heap.base + heap.size → (i : ℕ) {r : ℕ} → i + 1 ≡ free_handle blocks → Raised blocks a size alignment r → r ≡ a
-      → {b : Block} → b ≡ new_block a size alignment flags → granted (i + 1) b ≡ allocation heap blocks size alignment flags
+      → {b : Block} → b ≡ new_block a size alignment flags → with_handle (i + 1) b ≡ allocation heap blocks size alignment flags
   search_granted flags l i eh w e eb =
       let k = (heap_is heap v).first in
       let ea = address_found l w e in
-      ap₂ granted eh (eb ∙ ap (λ (x : ℕ). new_block x size alignment flags) ea)
+      ap₂ with_handle eh (eb ∙ ap (λ (x : ℕ). new_block x size alignment flags) ea)
       ∙ is_granted heap blocks size alignment flags p o (omega arith) (omega (arith, from_base))
 
 -- ---- the address that is found
@@ -267,7 +264,7 @@ module _ (heap : Span) (blocks : List Block) (size alignment flags : ℕ) where
     pub has_address : 0 < lowest_address heap blocks size alignment
     pub block_is : g.block ≡ new_block (lowest_address heap blocks size alignment) size alignment flags
 
-  grants_is : grants heap blocks size alignment ≡ true → {g : Granted} → g.handle ≡ free_handle blocks
+  pub grants_is : grants heap blocks size alignment ≡ true → {g : Granted} → g.handle ≡ free_handle blocks
       → g.block ≡ new_block (lowest_address heap blocks size alignment) size alignment flags → Grant g
   unfolding grants
   grants_is e {g} eh eb =
@@ -291,7 +288,7 @@ module _ (heap : Span) (blocks : List Block) (size alignment flags : ℕ) where
   grant_is {g} e = go (grants heap blocks size alignment) refl e
     where
       go : (t : Bool) → grants heap blocks size alignment ≡ t
-          → Some g ≡ cond t (granted (free_handle blocks) (new_block (lowest_address heap blocks size alignment) size alignment flags)) None
+          → Some g ≡ cond t (with_handle (free_handle blocks) (new_block (lowest_address heap blocks size alignment) size alignment flags)) None
           → Grant g
       go true et q =
           let new : Granted = record {
