@@ -13,9 +13,9 @@ use Rattle.responder.specs.Reply.{reply}
 use Rattle.responder.specs.declared.respond.Served.{Served}
 use Rattle.file.specs.Filed.{filed}
 
-pub filed_above : (m : List ℕ) → largest < length m → leaves m bad_size ≡ filed m
+pub filed_above : (m : List ℕ) {n : ℕ} → largest < length m → n ≡ bad_size → leaves m n ≡ filed m
 unfolding filed
-filed_above m h = rw (lt-ltb largest (length m) h)
+filed_above m h e = rw (lt-ltb largest (length m) h, e)
 
 pub filed_served : (m : List ℕ) {m₁ : List ℕ} {b : Board} {r : Served} → length m ≤ largest → b ≡ bench → leaves m₁ r ≡ reply b m
     → leaves m₁ r.outcome ≡ filed m
