@@ -38,7 +38,7 @@ use Rattle.responder.specs.declared.respond.Served.{Served}
 use Rattle.demands.proofs.Laws.Replied.{Replied, untouched, walked, replied}
 use Rattle.demands.specs.BytesHeld.{held, granted_outside, granted_by, released_outside, released_by, granted_in, released_in, is_walked}
 use Rattle.demands.specs.BytesHeld.{granted, released, last_board, granted_so_far, released_so_far, BytesHeld}
-use Rattle.demands.specs.Changes.{Refusal}
+use Rattle.demands.specs.Changes.{RefusalOutcome}
 use Rattle.demands.specs.Terms.{trail_of, decision_of, answers_of}
 
 -- ---- a place that is filled anew
@@ -202,7 +202,7 @@ tags_held g b p (r ∷ rs) =
     omega arith
 
 -- ---- a message
-refused_not_walked : (n : ℕ) → Refusal n → is_walked n ≡ false
+refused_not_walked : (n : ℕ) → RefusalOutcome n → is_walked n ≡ false
 refused_not_walked n (inl z) = rw z
 refused_not_walked n (inr (inl z)) = rw z
 refused_not_walked n (inr (inr (inl z))) = rw z

@@ -18,7 +18,7 @@ use Rattle.responder.proofs.Laws.Written.{writes_length}
 use Rattle.responder.specs.Reply.{write_all, code_of, served, reply}
 use Rattle.responder.specs.Turns.{Said, silent, says}
 use Rattle.demands.proofs.Laws.Replied.{Replied, untouched, walked, replied, clash}
-use Rattle.demands.specs.Changes.{Refusal, Numbered, NotAmong, InNoAnswer, Changes, SameLength, Untouched, Refusals}
+use Rattle.demands.specs.Changes.{RefusalOutcome, Numbered, NotAmong, InNoAnswer, Changes, SameLength, Untouched, Refusals}
 use Rattle.demands.specs.Terms.{trail_of, answers_of}
 
 -- ---- writes
@@ -75,6 +75,6 @@ pub numbered : Numbered
 unfolding served
 numbered b m = go (replied b m)
   where
-    go : Replied b m → WalkOutcome (reply b m).answer.outcome ⊎ Refusal (reply b m).answer.outcome
+    go : Replied b m → WalkOutcome (reply b m).answer.outcome ⊎ RefusalOutcome (reply b m).answer.outcome
     go (untouched o e f z) = inr o
     go (walked v g e) = inl (rw e (ending_outcome m (word m 0) header))

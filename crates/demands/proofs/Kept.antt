@@ -4,11 +4,13 @@ use mathlib.Core.List.{List}
 use mathlib.Core.Path.{◌≡◌, sym, ap, ◌∙◌}
 use Prim.Native.Nat.{ℕ}
 use lib.Dec.{eqb}
+use Rattle.std.specs.Prelude.{Result, Ok, Err}
 use Rattle.words.specs.Numbers.{word}
 use Rattle.message.specs.Opening.{opened}
 use Rattle.message.specs.Outcomes.{done}
 use Rattle.message.specs.Sizes.{header, code_place}
-use Rattle.message.specs.declared.opening.Opened.{Opened}
+use Rattle.message.specs.declared.opening.Message.{Message}
+use Rattle.message.specs.declared.outcome.Refusal.{Refusal}
 use Rattle.board.proofs.Laws.Record.{valid_parts, display_valid}
 use Rattle.board.specs.Display.{valid_display}
 use Rattle.board.specs.Record.{valid}
@@ -54,6 +56,6 @@ kept b m v = rw v (go (opened m))
     coded true size = served_valid b m size v
     coded false size = v
 
-    go : (o : Opened) → valid (opened_if o b m).answer.board ≡ true
-    go (Opened.Refused n) = v
-    go (Opened.Good message) = coded (eqb (word m code_place) 0) message.size
+    go : (o : Result Message Refusal) → valid (opened_if o b m).answer.board ≡ true
+    go (Err refusal) = v
+    go (Ok message) = coded (eqb (word m code_place) 0) message.size

@@ -6,6 +6,7 @@ use Prim.Native.Nat.{ℕ, zero, suc, ◌+◌, ◌^◌, ◌≤◌, ◌<◌, min}
 use native.Mathlib.Omega.{arith}
 use lib.Dec.{eqb}
 use lib.ListN.{length, take, drop, get_or}
+use Rattle.std.specs.Prelude.{Ok}
 use Rattle.words.proofs.Laws.Agree.{drop_later}
 use Rattle.words.proofs.Laws.Put.{length_put, drop_put, number_put}
 use Rattle.words.specs.Numbers.{le, word}
@@ -19,7 +20,6 @@ use Rattle.message.specs.Outcomes.{done}
 use Rattle.message.specs.Reader.{is_response, judged, found_in, found}
 use Rattle.message.specs.Sizes.{header, tag_header, code_place}
 use Rattle.message.specs.Walk.{walk_from}
-use Rattle.message.specs.declared.opening.Opened.{Opened}
 use Rattle.board.specs.declared.record.Board.{Board}
 use Rattle.responder.specs.Reply.{code_of, served, reply}
 use Rattle.responder.specs.Turns.{Said, silent, says}
@@ -53,12 +53,12 @@ module _ (b : Board) (m : List ℕ) (g : GoodSize (word m 0) (length m)) where
   length_left : length left ≡ length m
   length_left = length_put code_place (code_bytes b m g) (filled b m g) ∙ writes_length (walk_of m).tags (answers_of b m) m
 
-  pub opens : opened left ≡ Opened.Good (record { size = word m 0 })
+  pub opens : opened left ≡ Ok (record { size = word m 0 })
   opens =
       let z = size_same b m g in
       let n = length_left in
       let good : GoodSize (word left 0) (length left) = rw (z, n) g in
-      opened_good left good ∙ ap (λ (x : ℕ). Opened.Good (record { size = x })) z
+      opened_good left good ∙ ap (λ (x : ℕ). Ok (record { size = x })) z
 
   pub code_is : word left code_place ≡ code_of (trail_of m).ending.outcome
   code_is = go (eqb (trail_of m).ending.outcome done)

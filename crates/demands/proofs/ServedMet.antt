@@ -47,7 +47,7 @@ use Rattle.demands.proofs.ReadingBack.{every_tag_sought, code_word, reads}
 use Rattle.demands.proofs.Walked.{walked_is}
 use Rattle.demands.specs.AnswerLengths.{HasArrays, length_in}
 use Rattle.demands.specs.AnsweredWhen.{AsksGroup, Mixes}
-use Rattle.demands.specs.Changes.{Refusal, Untouched}
+use Rattle.demands.specs.Changes.{RefusalOutcome, Untouched}
 use Rattle.demands.specs.ReadingBack.{occurrence_at, sought, Reads}
 use Rattle.demands.specs.Terms.{tag_of, trail_of, answers_of, said_at, Answered}
 use Rattle.demands.specs.Walked.{LeavesTags}
@@ -198,7 +198,7 @@ mixed_kept = display_stays bench test_beside_set (inr (inl ((0, refl), (1, refl)
 abbrev eleven : List ℕ
 eleven = take 11 (word_bytes (12 ∷ 0 ∷ 0 ∷ []))
 
-pub eleven_numbered : WalkOutcome (reply bench eleven).answer.outcome ⊎ Refusal (reply bench eleven).answer.outcome
+pub eleven_numbered : WalkOutcome (reply bench eleven).answer.outcome ⊎ RefusalOutcome (reply bench eleven).answer.outcome
 eleven_numbered = numbered bench eleven
 
 pub eleven_untouched : Untouched bench eleven

@@ -12,13 +12,13 @@ use Rattle.responder.specs.Turns.{Said, silent, says}
 use Rattle.demands.specs.Terms.{trail_of, answers_of}
 
 -- the outcomes 1, 2, 3 and 14
-abbrev pub Refusal : (outcome : ℕ) → Type 0
-Refusal outcome =
+abbrev pub RefusalOutcome : (outcome : ℕ) → Type 0
+RefusalOutcome outcome =
     (outcome ≡ too_few_lent) ⊎ ((outcome ≡ bad_size) ⊎ ((outcome ≡ not_request) ⊎ (outcome ≡ invalid_board)))
 
 -- Any bytes and any record get an outcome by number: 0, a fault 4, 5 or 6, or a refusal 1, 2, 3 or 14.
 abbrev pub Numbered : Type 0
-Numbered = (b : Board) (m : List ℕ) → WalkOutcome (reply b m).answer.outcome ⊎ Refusal (reply b m).answer.outcome
+Numbered = (b : Board) (m : List ℕ) → WalkOutcome (reply b m).answer.outcome ⊎ RefusalOutcome (reply b m).answer.outcome
 
 -- ---- where the message is walked
 -- After 0 the code word is 0x80000000, after a fault 0x80000001.
@@ -61,4 +61,4 @@ Untouched b m = ((reply b m).bytes ≡ m) × ((reply b m).answer.board ≡ b)
 
 -- After 1, 2, 3 and 14 nothing changes, the record included.
 abbrev pub Refusals : Type 0
-Refusals = (b : Board) (m : List ℕ) → Refusal (reply b m).answer.outcome → Untouched b m
+Refusals = (b : Board) (m : List ℕ) → RefusalOutcome (reply b m).answer.outcome → Untouched b m

@@ -5,7 +5,7 @@ ghost use Rattle.file.specs.Filed.{filed, rewrites};
 
 use board::bench::bench_record;
 use message::opening::Message;
-use message::outcome;
+use message::outcome::{self, Refusal};
 use responder::respond::respond;
 
 // Serves the bytes of a file in place, and gives the outcome. More bytes than a message may have
@@ -15,7 +15,7 @@ pub fn serve_bytes(bytes: &mut [u8]) -> u32
     ensures { leaves bytes.new result ≡ filed bytes.old }
 {
     if Message::MAX < bytes.len() {
-        return outcome::BAD_SIZE;
+        return Refusal::BadSize.number();
     }
     respond(bench_record(), bytes).outcome
 }

@@ -1,12 +1,13 @@
 -- What the responder gives for any record and any bytes.
-use Rattle.std.specs.Prelude.{Bool, true, false, cond, List, [], ◌∷◌, ℕ, eqb}
+use Rattle.std.specs.Prelude.{Bool, true, false, cond, List, [], ◌∷◌, ℕ, eqb, Result, Ok, Err}
 use Rattle.words.specs.Numbers.{le, word}
 use Rattle.words.specs.Put.{put}
 use Rattle.message.specs.Builder.{Call, leaves}
 use Rattle.message.specs.Opening.{opened}
-use Rattle.message.specs.Outcomes.{done, not_request, invalid_board}
+use Rattle.message.specs.Outcomes.{done, not_request, invalid_board, number_of}
 use Rattle.message.specs.Sizes.{header, code_place}
-use Rattle.message.specs.declared.opening.Opened.{Opened}
+use Rattle.message.specs.declared.opening.Message.{Message}
+use Rattle.message.specs.declared.outcome.Refusal.{Refusal}
 use Rattle.message.specs.declared.walk.Tag.{Tag}
 use Rattle.board.specs.Record.{with_display, valid}
 use Rattle.board.specs.declared.record.Board.{Board}
@@ -62,9 +63,9 @@ abbrev pub coded_if : (is_request : Bool) → Board → List ℕ → (size : ℕ
 coded_if true b m size = served b m size
 coded_if false b m size = refused not_request b m
 
-abbrev pub opened_if : Opened → Board → List ℕ → Call Served
-opened_if (Opened.Refused outcome) b m = refused outcome b m
-opened_if (Opened.Good message) b m = coded_if (eqb (word m code_place) 0) b m message.size
+abbrev pub opened_if : Result Message Refusal → Board → List ℕ → Call Served
+opened_if (Err refusal) b m = refused (number_of refusal) b m
+opened_if (Ok message) b m = coded_if (eqb (word m code_place) 0) b m message.size
 
 abbrev pub valid_if : Bool → Board → List ℕ → Call Served
 valid_if true b m = opened_if (opened m) b m

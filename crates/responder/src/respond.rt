@@ -1,7 +1,7 @@
 // Serving a message.
 ghost use Rattle.std.specs.Prelude.{true, ◌≡◌, eqb};
 ghost use Rattle.message.specs.Builder.{leaves};
-ghost use Rattle.message.specs.Outcomes.{done};
+ghost use Rattle.message.specs.Outcomes.{done, number_of};
 ghost use Rattle.message.specs.Sizes.{header};
 ghost use Rattle.message.specs.Helpers.{Walking};
 ghost use Rattle.board.specs.Memory.{valid_heap};
@@ -16,8 +16,8 @@ use board::valid::is_valid;
 use display::decision::{Decision, decide, leave};
 use display::operation::Operation;
 use display::valid::ValidDisplay;
-use message::opening::{Message, Opened, open};
-use message::outcome;
+use message::opening::{Message, open};
+use message::outcome::{self, Refusal};
 use words::numbers::{put_u32, u32_at};
 
 // How a message was served, and the record afterwards.
@@ -28,11 +28,11 @@ pub struct Served {
     pub board: Board,
 }
 
-fn refused(outcome: u32, board: Board) -> Served
-    ensures { result ≡ record { outcome = outcome; place = 0; board = board } }
+fn refused(refusal: Refusal, board: Board) -> Served
+    ensures { result ≡ record { outcome = number_of refusal; place = 0; board = board } }
 {
     Served {
-        outcome,
+        outcome: refusal.number(),
         place: 0,
         board,
     }
@@ -96,21 +96,21 @@ fn serve_opened(board: Board, msg: &mut [u8], size: usize) -> Served
 
 // Serves the message that the lent bytes hold, and rewrites it in place. Any bytes and any record
 // get an outcome; a refusal leaves both as they were.
+#[tactic(auto, unfolding(crate::specs::Reply::reply))]
 pub fn respond(board: Board, msg: &mut [u8]) -> Served
     ensures { leaves msg.new result ≡ reply board msg.old }
 {
     if !is_valid(board) {
-        return refused(outcome::INVALID_BOARD, board);
+        return refused(Refusal::InvalidBoard, board);
     }
-    let opened = open(msg);
-    match opened {
-        Opened::Refused(number) => refused(number, board),
-        Opened::Good(message) => {
-            let code = u32_at(msg, Message::CODE);
-            if code != 0 {
-                return refused(outcome::NOT_REQUEST, board);
+    match open(msg) {
+        Ok(message) => {
+            if u32_at(msg, Message::CODE) == 0 {
+                serve_opened(board, msg, message.size)
+            } else {
+                refused(Refusal::NotRequest, board)
             }
-            serve_opened(board, msg, message.size)
         }
+        Err(refusal) => refused(refusal, board),
     }
 }

@@ -1,20 +1,20 @@
 -- What a run of adds leaves, that it can be finished, and what finishing makes of it.
-use mathlib.Core.Bool.{Bool, true, false, cond, ◌&&◌, and-eq-true_iff}
+use mathlib.Core.Bool.{Bool, true, false, cond}
 use mathlib.Core.List.{List, [], ◌∷◌, ◌++◌}
 use mathlib.Core.Path.{◌≡◌, refl, sym, ap, ◌∙◌, subst}
-use Prim.Native.Nat.{ℕ, ◌+◌, ◌-◌, ◌%◌, ◌^◌, ◌≤◌, ◌<◌}
+use Prim.Native.Nat.{ℕ, ◌+◌, ◌-◌, ◌^◌, ◌≤◌, ◌<◌}
 use native.Mathlib.Omega.{arith}
-use borrow.Author.Tests.{eqb-true, eqb-false, ltb-false, eq-eqb, ne_eqb, le-leb}
-use lib.Dec.{ltb, leb, eqb}
+use borrow.Author.Tests.{eqb-true, eqb-false, ltb-false, ne_eqb}
+use lib.Dec.{ltb, eqb}
 use lib.ListN.{length, take, drop}
 use Rattle.words.proofs.Laws.Agree.{take_earlier, part_before, number_behind, number_before}
 use Rattle.words.proofs.Laws.Put.{length_put, drop_put, take_put, read_put, number_put, put_behind}
 use Rattle.words.specs.Numbers.{le, word}
 use Rattle.words.specs.Put.{put, zeros}
-use Rattle.message.proofs.Laws.Builder.{GoodCursor, taken_has, finish_taken, Closed}
+use Rattle.message.proofs.Laws.Builder.{taken_has, finish_taken, Closed}
 use Rattle.message.proofs.Laws.Built.{add_refused, add_done, finish_done, finish_accepted}
 use Rattle.message.proofs.Laws.Opening.{GoodSize}
-use Rattle.message.specs.Builder.{Call, added, room, good_cursor, start_outcome, add_outcome, started_if, started, finished, closed, finished_size}
+use Rattle.message.specs.Builder.{Call, added, room, start_outcome, add_outcome, started_if, started, finished, closed, finished_size}
 use Rattle.message.specs.Outcomes.{done, no_room}
 use Rattle.message.specs.Sizes.{header, end_word, code_place}
 use Rattle.message.specs.Walk.{tag_end}
@@ -78,12 +78,6 @@ ran (a ∷ adds) m c w =
     go false e r r' = ran_refused m c a adds (eqb-false (outcome m c a adds) done e) r'
 
 -- ---- after an accepted start a message can be finished, whatever is added
-cursor_good : (at room : ℕ) → GoodCursor at room → good_cursor at room ≡ true
-unfolding good_cursor
-cursor_good at room g =
-    (and-eq-true_iff (leb header at && eqb (at % 4) 0) (leb at room)).1
-    ((and-eq-true_iff (leb header at) (eqb (at % 4) 0)).1 (le-leb _ _ g.from_header, eq-eqb _ _ g.fours), le-leb _ _ g.within)
-
 pub start_can_finish : (m : List ℕ) → (started m).outcome ≡ done → Closed (length m) header
 unfolding started start_outcome
 start_can_finish m e = go (ltb (room (length m)) (finished_size header)) refl e
@@ -128,7 +122,7 @@ run_can_finish (a ∷ adds) m c h =
 pub finish_taken_there : (m : List ℕ) (c : Cursor) → Closed (length m) c.at → (finished m c).answer.outcome ≡ done
 finish_taken_there m c h =
     sym (ap (λ (x : Call Finished). x.answer.outcome)
-    (finish_done m c (finish_taken (length m) c.at refl refl (cursor_good c.at (room (length m)) h.cursor) refl h.fits) refl refl refl))
+    (finish_done m c (finish_taken (length m) c.at h) refl refl refl))
 
 -- ---- finishing at a cursor behind adds that the message holds from its header on
 pub record Whole (m : List ℕ) (c : ℕ) (adds : List Add) : Type 0 where

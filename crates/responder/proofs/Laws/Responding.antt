@@ -1,30 +1,24 @@
 -- The responder, case by case.
-use mathlib.Core.Bool.{Bool, true, false, cond, not}
+use mathlib.Core.Bool.{Bool, true, false, cond}
 use mathlib.Core.List.{List}
-use mathlib.Core.Path.{◌≡◌, refl, sym, ap, ◌∙◌}
-use Prim.Native.Nat.{ℕ, ◌+◌, ◌≤◌}
+use mathlib.Core.Path.{◌≡◌, refl, ap, ◌∙◌}
+use Prim.Native.Nat.{ℕ}
 use native.Mathlib.Omega.{arith}
-use borrow.Author.Tests.{eq-eqb, ne_eqb, not-true, not-false}
 use lib.Dec.{eqb}
 use lib.ListN.{length}
-use Rattle.words.specs.Numbers.{le, word}
+use Rattle.words.specs.Numbers.{le}
 use Rattle.words.specs.Put.{put}
-use Rattle.message.proofs.Laws.Opening.{opened_walking}
 use Rattle.message.specs.Builder.{Call, leaves}
-use Rattle.message.specs.Opening.{opened}
-use Rattle.message.specs.Outcomes.{done, not_request, invalid_board}
+use Rattle.message.specs.Outcomes.{done}
 use Rattle.message.specs.Sizes.{header, code_place}
 use Rattle.message.specs.Helpers.{Walking}
-use Rattle.message.specs.declared.opening.Message.{Message}
-use Rattle.message.specs.declared.opening.Opened.{Opened}
 use Rattle.message.specs.declared.walk.Ending.{Ending}
 use Rattle.board.proofs.Laws.Memory.{memory_parts}
 use Rattle.board.proofs.Laws.Record.{valid_parts}
 use Rattle.board.specs.Memory.{valid_heap}
 use Rattle.board.specs.Record.{with_display, valid}
-use Rattle.board.specs.declared.display.Display.{Display}
 use Rattle.board.specs.declared.record.Board.{Board}
-use Rattle.display.specs.Decision.{left_alone, decided}
+use Rattle.display.specs.Decision.{left_alone}
 use Rattle.display.specs.declared.decision.Decision.{Decision}
 use Rattle.display.specs.declared.operation.Operation.{Operation}
 use Rattle.requests.specs.Requests.{Trail, trail}
@@ -34,27 +28,10 @@ use Rattle.responder.proofs.Laws.Turns.{turns_keep}
 use Rattle.responder.proofs.Laws.Twice.{twice}
 use Rattle.responder.proofs.Laws.Written.{writes_length}
 use Rattle.responder.specs.Answers.{group_by, group_decision, turn_of, answers, after}
-use Rattle.responder.specs.Reply.{write_all, trail_written, code_of, served, opened_if, reply}
+use Rattle.responder.specs.Reply.{write_all, trail_written, code_of, served}
 use Rattle.responder.specs.Serve.{walk_served, group_served}
 use Rattle.responder.specs.Turns.{Said}
-use Rattle.responder.specs.declared.respond.Served.{Served}
 use Rattle.responder.specs.declared.walk.TagsServed.{TagsServed}
-
--- ---- the group's decision, and its walk
-module _ (outcome : ℕ) (d : Display) (o : Operation) {r : Decision} where
-  pub group_decided : outcome ≡ done → r ≡ decided d o → r ≡ group_by (eqb outcome done) d o
-  group_decided y e = e ∙ ap (λ (x : Bool). group_by x d o) (sym (eq-eqb outcome done y))
-
-  pub group_left : (outcome ≡ done → ⊥) → r ≡ left_alone d → r ≡ group_by (eqb outcome done) d o
-  group_left n e = e ∙ ap (λ (x : Bool). group_by x d o) (sym (ne_eqb outcome done n))
-
-module _ (g : Decision) (b : Board) (m : List ℕ) (size : ℕ) where
-  pub group_walked : g.answered ≡ true → {m' : List ℕ} {r : TagsServed} → leaves m' r ≡ walk_served g b m size → m' ≡ group_served g b m size
-  group_walked y e =
-      ap (λ (x : Call TagsServed). x.bytes) e ∙ ap (λ (x : Bool). cond x (trail_written (turn_of g) b (trail m size header) m) m) (sym y)
-
-  pub group_stays : g.answered ≡ false → m ≡ group_served g b m size
-  group_stays n = ap (λ (x : Bool). cond x (trail_written (turn_of g) b (trail m size header) m) m) (sym n)
 
 -- ---- the heap of a valid record, and of what a walk leaves of one
 pub valid_heap_of : (b : Board) → valid b ≡ true → valid_heap b.heap ≡ true
@@ -121,36 +98,3 @@ module _ (b : Board) (m : List ℕ) (size : ℕ) (w : Walking m size header) whe
         let bytes : m₃ ≡ put code_place (le 4 (code_of r.ending.outcome)) (trail_written (turn_of g) b tr m) =
         e₃ ∙ code_is ∙ ap (put code_place (le 4 (code_of r.ending.outcome))) bytes_are in
         rw (bytes, ending_is, board_is, group_is)
-
--- ---- any record and any bytes
-module _ (b : Board) (m : List ℕ) {v : Bool} (ev : v ≡ valid b) where
-  pub respond_invalid : not v ≡ true → {r : Served} → r ≡ record { outcome = invalid_board; place = 0; board = b } → leaves m r ≡ reply b m
-  unfolding reply
-  respond_invalid n e = rw (e, ← ev, not-true v n)
-
-  module _ (n : not v ≡ false) where
-    is_valid : valid b ≡ true
-    is_valid = sym ev ∙ not-false v n
-
-    reply_is : reply b m ≡ opened_if (opened m) b m
-    unfolding reply
-    reply_is = rw is_valid
-
-    module _ {o : Opened} (eo : o ≡ opened m) where
-      pub respond_refused : {number : ℕ} → o ≡ Opened.Refused number → {r : Served} → r ≡ record { outcome = number; place = 0; board = b }
-          → leaves m r ≡ reply b m
-      respond_refused e er = rw (er, reply_is, ← eo, e)
-
-      module _ {message : Message} (e : o ≡ Opened.Good message) where
-        pub respond_walking : (Walking m message.size header) × (valid b ≡ true)
-        respond_walking = (opened_walking m eo e, is_valid)
-
-        pub respond_code : code_place + 4 ≤ length m
-        respond_code = let w = opened_walking m eo e in omega arith
-
-        module _ {code : ℕ} (ec : code ≡ word m code_place) where
-          pub respond_response : (code ≡ 0 → ⊥) → {r : Served} → r ≡ record { outcome = not_request; place = 0; board = b } → leaves m r ≡ reply b m
-          respond_response z er = rw (er, reply_is, ← eo, e, ← ec, ne_eqb code 0 z)
-
-          pub respond_served : code ≡ 0 → {m' : List ℕ} {r : Served} → leaves m' r ≡ served b m message.size → leaves m' r ≡ reply b m
-          respond_served z s = rw (s, reply_is, ← eo, e, ← ec, eq-eqb code 0 z)
