@@ -45,21 +45,3 @@ impl Alignment {
         address.next_multiple_of(self.value as u64)
     }
 }
-
-// Whether an address is a multiple of the alignment. No entry point: for an alignment that has one bit
-// set.
-pub fn is_aligned(alignment: u32, address: u32) -> bool
-    requires { one_bit alignment ≡ true }
-    ensures { result ≡ aligned alignment address }
-{
-    Alignment { value: alignment }.is_multiple(address)
-}
-
-// The lowest multiple of the alignment at or above the address: it may pass 2^32. No entry point: for an
-// alignment that has one bit set, and an address that is the sum of two words at most.
-pub fn lowest_multiple(address: u64, alignment: u32) -> u64
-    requires { (one_bit alignment ≡ true) × (address < 0x2_0000_0000) }
-    ensures { result ≡ round_up alignment address }
-{
-    Alignment { value: alignment }.lowest_multiple(address)
-}
