@@ -2,4 +2,3 @@ pub mod Decision
 pub mod Kept
 pub mod AnswerFits
 pub mod Operation
-pub mod GroupPut

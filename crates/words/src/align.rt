@@ -30,6 +30,7 @@ impl Alignment {
     }
 
     // Whether an address is a multiple of the alignment.
+    #[tactic(auto, unfolding(crate::specs::Align::aligned))]
     pub fn is_multiple(self, address: u32) -> bool
         ensures { result ≡ aligned self.value address }
     {

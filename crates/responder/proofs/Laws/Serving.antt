@@ -81,11 +81,6 @@ pub record Ahead (g : Decision) (m₀ : List ℕ) (size : ℕ) (b₀ : Board) (m
   pub heap_same : b.heap ≡ b₀.heap
   pub serves : trail_served g b o (trail m₀ size p) m ≡ walk_served g b₀ m₀ size
 
-pub serve_start : (g : Decision) (m₀ : List ℕ) (size : ℕ) (b₀ : Board) {o : Operation} → Walking m₀ size header
-    → o ≡ unasked b₀.display.settings → Ahead g m₀ size b₀ m₀ b₀ o header
-serve_start g m₀ size b₀ w e =
-    record { walking = w; same = refl; rest = refl; heap_same = refl; serves = ap (λ (x : Operation). trail_served g b₀ x (trail m₀ size header) m₀) e }
-
 module _ (g : Decision) (m₀ : List ℕ) (size : ℕ) (b₀ : Board) (m : List ℕ) (b : Board) (o : Operation) (p : ℕ) (h : Ahead g m₀ size b₀ m b o p) {st : Step}
     (es : st ≡ step m size p) where
   es₀ : step m₀ size p ≡ st
