@@ -2,7 +2,8 @@
 use mathlib.Core.Bool.{true, false≢true}
 use mathlib.Core.Path.{◌≡◌, refl, sym, ap, ◌∙◌, subst}
 use Prim.Native.Nat.{ℕ, zero, suc, ◌+◌, ◌-◌, ◌*◌, ◌/◌, ◌%◌, ◌^◌, ◌≤◌, ◌<◌}
-use native.Mathlib.Nat.{suc-mul, le_of_suc-le-suc, div-lt_iff_lt-mul, div-eq_of_lt-le, div-add-mod', mod-lt, div-mul-le_self, mul-le-mul_right, zero-lt-suc, mul-mod_left}
+use native.Mathlib.Nat.{suc-mul, le_of_suc-le-suc, zero-lt-suc, mul-le-mul_right}
+use native.Mathlib.Nat.{div-lt_iff_lt-mul, div-eq_of_lt-le, div-add-mod', div-mul-le_self, mod-lt, mul-mod_left}
 use native.Mathlib.Numerals.{add-one}
 use native.Mathlib.Omega.{arith}
 use borrow.Author.Tests.{eq-eqb, eqb-true}
