@@ -12,7 +12,7 @@ use Rattle.message.proofs.Laws.Steps.{StepFound, step_found, walking_on, step_sa
 use Rattle.message.specs.contracts.walk.Step
 use Rattle.message.specs.Builder.{leaves}
 use Rattle.message.specs.Outcomes.{short_request}
-use Rattle.message.specs.Sizes.{header, tag_header, largest}
+use Rattle.message.specs.Sizes.{tag_header, largest}
 use Rattle.message.specs.Helpers.{Walking, InMessage}
 use Rattle.message.specs.Walk.{step, ending_of}
 use Rattle.message.specs.declared.walk.Ending.{Ending}
@@ -26,7 +26,7 @@ use Rattle.answers.specs.Writing.{answered}
 use Rattle.tags.proofs.Laws.Alone.{after_heap}
 use Rattle.tags.proofs.Laws.ServesOutside.{Serves}
 use Rattle.display.specs.Decision.{group_answer}
-use Rattle.display.specs.Operation.{unasked, noted}
+use Rattle.display.specs.Operation.{noted}
 use Rattle.display.specs.GroupPut.{GroupPut}
 use Rattle.display.specs.declared.decision.Decision.{Decision}
 use Rattle.display.specs.declared.operation.Operation.{Operation}
