@@ -4,7 +4,7 @@ ghost use Rattle.board.specs.Memory.{span, apart, bytes_of, clear_of};
 
 use crate::facts::Span;
 
-// A block, where the place is taken. Where it is free, as by default, the rest says nothing.
+// A block, where the place is taken. Where it is free, as by default, the rest says nothing. A flag tells, as in C.
 #[repr(C)]
 #[derive(Clone, Copy, Default)]
 pub struct Block {
@@ -28,7 +28,8 @@ impl Block {
     }
 }
 
-// Whether two runs of memory share no byte; the first may begin behind 2^32. No entry point: for a base below 2^36.
+// Whether two runs of memory share no byte. The first is no `Span`, since it may begin behind 2^32. No entry point:
+// for a base below 2^36.
 #[tactic(auto, unfolding(crate::specs::Memory::apart))]
 pub fn are_apart(base: u64, size: u32, t: Span) -> bool
     requires { base < 0x10_0000_0000 }

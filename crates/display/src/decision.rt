@@ -12,7 +12,8 @@ use board::settings::PossibleSettings;
 use words::align::Alignment;
 
 // Whether the group's tags are answered, whether the operation was accepted, the settings, the pitch and the
-// buffer that they answer, and the display afterwards.
+// buffer that they answer, and the display afterwards. `answered` is a flag: what is shown and how the display is
+// left are said in either case, and theorems speak of it alone.
 #[derive(Clone, Copy)]
 pub struct Decision {
     pub answered: bool,

@@ -30,6 +30,7 @@ pub fn no_tag_yet(settings: Settings) -> Operation
     }
 }
 
+// A function for each struct, since their fields have other names.
 fn size_of(request: &[u8]) -> Size
     ensures { result ≡ size_of request.now }
 {

@@ -27,7 +27,7 @@ pub fn serve_and_draw(
     print_words(rt, bytes)?;
     let after = served.board;
     lines::of_display(rt, after.display)?;
-    blocks::of_blocks(rt, after.blocks)?;
+    blocks::of_blocks(rt, &after.blocks)?;
     Ok(after)
 }
 

@@ -14,10 +14,10 @@ fn of_block(rt: &impl Print, handle: usize, b: &Block) -> io::Result<()> {
 }
 
 // The blocks that are taken, by their handles.
-pub fn of_blocks(rt: &impl Print, blocks: [Block; 32]) -> io::Result<()>
+pub fn of_blocks(rt: &impl Print, blocks: &[Block]) -> io::Result<()>
     ensures { IfOk result (λ u. u ≡ tt) }
 {
-    for (handle, block) in (1..).zip(&blocks) {
+    for (handle, block) in (1..).zip(blocks) {
         if block.taken {
             of_block(rt, handle, block)?;
         }

@@ -1,5 +1,5 @@
 // What the lister says of sizes and of values that run over.
-ghost use Rattle.std.specs.Prelude.{◌≡◌, IfOk};
+ghost use Rattle.std.specs.Prelude.{◌≡◌, ◌≤◌, IfOk, length};
 
 use crate::lines;
 use message::lister::list;
@@ -14,13 +14,13 @@ pub fn cases(rt: &impl Print) -> io::Result<()>
     let lent = [0u8; 12];
     lines::of_listed(rt, "lent 0", list(&lent[..0], 0))?;
     lines::of_listed(rt, "lent 11", list(&lent[..11], 0))?;
-    small_message(rt, "size 8", 8)?;
-    small_message(rt, "size 12", 12)?;
-    small_message(rt, "size 14", 14)?;
-    small_message(rt, "size 16 of 12 lent", 16)?;
-    large_message(rt, "size 65532", 65532)?;
-    large_message(rt, "size 65536", 65536)?;
-    large_message(rt, "size 65540", 65540)?;
+    sized(rt, "size 8", &mut [0; 12], 8)?;
+    sized(rt, "size 12", &mut [0; 12], 12)?;
+    sized(rt, "size 14", &mut [0; 12], 14)?;
+    sized(rt, "size 16 of 12 lent", &mut [0; 12], 16)?;
+    sized(rt, "size 65532", &mut [0; 65540], 65532)?;
+    sized(rt, "size 65536", &mut [0; 65540], 65536)?;
+    sized(rt, "size 65540", &mut [0; 65540], 65540)?;
     tag_value(rt, "no end", 1, 4)?;
     tag_value(rt, "end", 0, 4)?;
     tag_value(rt, "value of 0xfffffffd bytes", 1, 0xffff_fffd)?;
@@ -29,18 +29,12 @@ pub fn cases(rt: &impl Print) -> io::Result<()>
     tag_value(rt, "value of 3 bytes in 4", 1, 3)
 }
 
-// 12 bytes with this size word, and zeros: the tag of index 0.
-fn small_message(rt: &impl Print, name: &str, size: u32) -> io::Result<()> {
-    let mut lent = [0u8; 12];
-    put_u32(&mut lent, 0, size);
-    lines::of_listed(rt, name, list(&lent, 0))
-}
-
-// The same of 65,540 bytes.
-fn large_message(rt: &impl Print, name: &str, size: u32) -> io::Result<()> {
-    let mut lent = [0u8; 65540];
-    put_u32(&mut lent, 0, size);
-    lines::of_listed(rt, name, list(&lent, 0))
+// Bytes with this size word: the tag of index 0.
+fn sized(rt: &impl Print, name: &str, lent: &mut [u8], size: u32) -> io::Result<()>
+    requires { 4 ≤ length lent.old }
+{
+    put_u32(lent, 0, size);
+    lines::of_listed(rt, name, list(lent, 0))
 }
 
 // A message of 36 bytes, whose first tag has no value, and whose second has this id and value size

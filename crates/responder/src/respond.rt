@@ -21,6 +21,7 @@ use message::outcome::{self, Refusal};
 use words::numbers::{put_u32, u32_at};
 
 // How a message was served, and the record afterwards.
+// `outcome` is a number: the rules and C name every outcome by its number.
 #[derive(Clone, Copy)]
 pub struct Served {
     pub outcome: u32,

@@ -53,12 +53,14 @@ pub fn serve_tags(board: Board, msg: &mut [u8], size: usize, group: Decision) ->
     ensures { leaves msg.new result ≡ walk_served group board msg.old size }
 {
     let mut b = board;
-    // No tag changes where the heap lies.
+    // No tag changes where the heap lies. That it is valid is asked of the record: a heap of a type of its own would
+    // have to be tied to this record's by a clause.
     let heap = b.heap;
     let mut operation = no_tag_yet(b.display.settings);
     let mut p = Message::HEADER;
     loop {
         let st = step_at(msg, size, p);
+        // No iterator: the rules end a walk by the step that is no tag.
         let Step::Tag(tag, next) = st else {
             return TagsServed {
                 ending: ended(st),
