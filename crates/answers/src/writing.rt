@@ -14,7 +14,8 @@ use message::walk::Tag;
 use words::bytes::store;
 use words::numbers::put_u32;
 
-// Answers the tag with bytes, whose count has to fit into a tag word.
+// Answers the tag with bytes, whose count has to fit into a tag word. It asks for the tag in the message because it
+// writes at `at` without a look: elsewhere the writes would fall on other tags, or behind the message.
 pub fn put_bytes(msg: &mut [u8], at: usize, size: u32, bytes: &[u8])
     requires { (InMessage (length msg.old) at size) × (length bytes.now < 2 ^ 31) }
     ensures { msg.new ≡ answered at size bytes.now msg.old }
@@ -41,8 +42,7 @@ pub fn put_word(msg: &mut [u8], at: usize, size: u32, n: u32)
     put_bytes(msg, at, size, &n.to_le_bytes());
 }
 
-// Answers the tag with two words. It asks for the tag in the message because it writes at `at` without a look:
-// elsewhere the writes would fall on other tags, or behind the message.
+// Answers the tag with two words.
 pub fn put_pair(msg: &mut [u8], at: usize, size: u32, a: u32, b: u32)
     requires { InMessage (length msg.old) at size }
     ensures { msg.new ≡ answered at size (two_words a b) msg.old }
