@@ -1,8 +1,9 @@
 // The answer of a tag, written into its message: the tag word, and the value's first bytes. A small answer
 // is a number or two, a long one a part of the record.
 //
-// No entry points: each asks that the tag lies in the message, as the walk
-// above has found it. Then its word and its value are there to be written, and nothing is left to refuse.
+// No entry points: each asks that the tag lies in the message, as the walk above has found it. Then its word and its
+// value are there to be written, and nothing is left to refuse. The message and the tag are lent apart, and each promise
+// asks that the one lies in the other: of a struct that held both, the message afterwards would be `self.exit.0`.
 ghost use Rattle.std.specs.Prelude.{[], ◌≡◌, ◌^◌, ◌<◌, length};
 ghost use Rattle.words.specs.Numbers.{le};
 ghost use Rattle.message.specs.Helpers.{InMessage};
@@ -14,7 +15,8 @@ use message::walk::Tag;
 use words::bytes::store;
 use words::numbers::put_u32;
 
-// Answers the tag with bytes, whose count has to fit into a tag word.
+// Answers the tag with bytes, whose count has to fit into a tag word. It asks for the tag in the message because it
+// writes at its place without a look: elsewhere the writes would fall on other tags, or behind the message.
 pub fn put_bytes(msg: &mut [u8], tag: Tag, bytes: &[u8])
     requires { (InMessage (length msg.old) tag.at tag.size) × (length bytes.now < 2 ^ 31) }
     ensures { msg.new ≡ answered tag.at tag.size bytes.now msg.old }
@@ -41,8 +43,7 @@ pub fn put_word(msg: &mut [u8], tag: Tag, n: u32)
     put_bytes(msg, tag, &n.to_le_bytes());
 }
 
-// Answers the tag with two words. It asks for the tag in the message because it writes at its place without a look:
-// elsewhere the writes would fall on other tags, or behind the message.
+// Answers the tag with two words.
 pub fn put_pair(msg: &mut [u8], tag: Tag, a: u32, b: u32)
     requires { InMessage (length msg.old) tag.at tag.size }
     ensures { msg.new ≡ answered tag.at tag.size (two_words a b) msg.old }
