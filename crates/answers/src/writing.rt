@@ -2,8 +2,8 @@
 // is a number or two, a long one a part of the record.
 //
 // No entry points: each asks that the tag lies in the message, as the walk above has found it. Then its word and its
-// value are there to be written, and nothing is left to refuse. The message and the tag are lent apart, and each promise
-// asks that the one lies in the other: of a struct that held both, the message afterwards would be `self.exit.0`.
+// value are there to be written, and nothing is left to refuse. The message and the tag are lent apart, and each
+// promise asks that the one lies in the other: of a struct of both, the message afterwards would be `self.exit.0`.
 ghost use Rattle.std.specs.Prelude.{[], ◌≡◌, ◌^◌, ◌<◌, length};
 ghost use Rattle.words.specs.Numbers.{le};
 ghost use Rattle.message.specs.Helpers.{InMessage};

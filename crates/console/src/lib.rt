@@ -18,7 +18,7 @@ pub fn print_words(rt: &impl Print, bytes: &[u8]) -> io::Result<()>
     println!(rt)
 }
 
-// The bytes of a run, in one line.
+// The bytes of a run, in one line. Two loops: a word and a byte have formats of their own, and a format is a literal.
 pub fn print_bytes(rt: &impl Print, bytes: &[u8]) -> io::Result<()>
     ensures { IfOk result (λ u. u ≡ tt) }
 {

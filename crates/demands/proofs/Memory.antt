@@ -101,7 +101,9 @@ module _ (b : Board) (v : valid b ≡ true) (size alignment flags : ℕ) where
       go : (t : Bool) → grants b.heap b.blocks size alignment ≡ t
           → (granted_handle (cond t (with_handle (free_handle b.blocks) new) None) ≡ 0)
           ⊎ ((granted_handle (cond t (with_handle (free_handle b.blocks) new) None) ≡ free_handle b.blocks) × (0 < free_handle b.blocks))
-      go true e = inr (refl, (grants_is b.heap b.blocks size alignment flags e {g = record { handle = free_handle b.blocks; block = new }} refl refl).handle_least)
+      go true e =
+          let granted = grants_is b.heap b.blocks size alignment flags e {g = record { handle = free_handle b.blocks; block = new }} refl refl in
+          inr (refl, granted.handle_least)
       go false e = inl refl
 
   free_place : 0 < free_handle b.blocks → (block_at b (free_handle b.blocks - 1)).taken ≡ false

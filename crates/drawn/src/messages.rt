@@ -54,6 +54,7 @@ fn put_words(bytes: &mut [u8], words: &[u8]) -> usize
 fn serve_message(rt: &impl Print, board: Board, line: &[u8]) -> io::Result<Board> {
     let colon = line.iter().position(|c| *c == b':').unwrap_or(line.len());
     let (name, words) = line.split_at(colon);
+    // Fixed memory: no heap.
     let mut buffer = [0u8; 1024];
     let n = put_words(&mut buffer, words);
     serve_and_draw(rt, name, board, &mut buffer[..n])
@@ -83,6 +84,7 @@ fn take_lines(rt: &impl Print, lines: &[u8]) -> io::Result<()> {
 pub fn serve_input(rt: &(impl Print + Input)) -> io::Result<()>
     ensures { IfOk result (λ u. u ≡ tt) }
 {
+    // Fixed memory: no heap.
     let mut buffer = [0u8; 65536];
     let n = read_full(&mut rt.reader(), &mut buffer);
     take_lines(rt, &buffer[..n])

@@ -72,6 +72,7 @@ fn serve_read(rt: &impl Files, path: &str, bytes: &mut [u8]) -> io::Result<u32> 
 fn serve_path(rt: &impl Files, path: &[u8]) -> io::Result<u32> {
     let path = as_text(path)?;
     let mut file = fs::open(rt, path)?;
+    // Fixed memory: no heap.
     let mut buffer = [0u8; Message::MAX + 1];
     let n = read_full(&mut file, &mut buffer);
     if n <= Message::MAX {

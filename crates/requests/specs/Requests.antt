@@ -1,5 +1,6 @@
 -- What the tags of a message ask for. A request has its bytes, and no size of a value buffer in it.
-use Rattle.std.specs.Prelude.{Bool, true, false, cond, List, [], ◌∷◌, ◌⊎◌, ◌≡◌, ℕ, ◌+◌, ltb, take, drop, Option, Some, None}
+use Rattle.std.specs.Prelude.{Bool, true, false, cond, List, [], ◌∷◌, ◌⊎◌, ◌≡◌, ℕ, ◌+◌, ltb, take, drop}
+use Rattle.std.specs.Prelude.{Option, Some, None}
 use Rattle.message.specs.Outcomes.{done, no_end, runs_over, short_request}
 use Rattle.message.specs.Reader.{is_answered}
 use Rattle.message.specs.Sizes.{tag_header}

@@ -29,6 +29,7 @@ fn show_bytes(rt: &impl Print, bytes: &[u8]) -> io::Result<()> {
 }
 
 fn show_open(rt: &impl Print, mut file: impl Read + Drop) -> io::Result<()> {
+    // Fixed memory: no heap.
     let mut buffer = [0u8; 65540];
     let n = read_full(&mut file, &mut buffer);
     show_bytes(rt, &buffer[..n])

@@ -20,7 +20,7 @@ fn known(kind: Kind, request: usize) -> Option<Row>
     Some(Row { kind, request })
 }
 
-// The row of an id, if it is known.
+// The row of an id, if it is known. A match and no map: fixed memory, and the rows are read beside those of the rules.
 #[tactic(auto, unfolding(crate::specs::Table::row_of, crate::specs::Table::table))]
 pub fn row_of(id: u32) -> Option<Row>
     ensures { result ≡ row_of id }

@@ -96,7 +96,8 @@ module _ (m : List ℕ) (t : Tag) where
           let v : lent_value ≡ value_of m t = ap (λ (n : ℕ). take n (drop (t.at + tag_header) m)) z in
           let h : t.size ≤ length (drop (t.at + tag_header) m) = omega (arith, length-drop (t.at + tag_header) m, i.within) in
           let n : length (value_of m t) ≡ t.size = length-take-le t.size (drop (t.at + tag_header) m) h in
-          ec ∙ ap (λ (x : List ℕ). length (request_bytes row.kind row.request (length x) x)) v ∙ ap (λ (x : ℕ). length (request_bytes row.kind row.request x (value_of m t))) n
+          ec ∙ ap (λ (x : List ℕ). length (request_bytes row.kind row.request (length x) x)) v
+          ∙ ap (λ (x : ℕ). length (request_bytes row.kind row.request x (value_of m t))) n
 
       pub ask_outside : {k : OutsideTag} → row.kind ≡ Kind.Outside k → Ask.Outside k count ≡ ask_of (request_of m t)
       unfolding ask_of

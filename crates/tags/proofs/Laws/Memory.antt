@@ -24,7 +24,8 @@ use Rattle.board.specs.Memory.{span, inside, apart, no_block, bytes_of, clear_of
 use Rattle.board.specs.declared.facts.Span.{Span}
 use Rattle.board.specs.declared.memory.Block.{Block}
 use Rattle.table.specs.declared.kinds.HandleTag.{HandleTag}
-use Rattle.tags.specs.Memory.{handle_count, is_free, free_handle, fits_at, lowest_address, grants, new_block, with_handle, allocation, with_lock, taken_after, handle_after}
+use Rattle.tags.specs.Memory.{handle_count, is_free, free_handle, fits_at, lowest_address, grants, new_block, with_handle, allocation}
+use Rattle.tags.specs.Memory.{with_lock, taken_after, handle_after}
 use Rattle.tags.specs.declared.memory.Granted.{Granted}
 use Rattle.tags.specs.Raised.{raised_over, Raised}
 
@@ -198,7 +199,8 @@ module _ (heap : Span) (blocks : List Block) (size alignment flags : ℕ) where
   address_refused z = not_granted (rw (le-ltb 0 (lowest_address heap blocks size alignment) (omega arith), and-false))
 
   pub is_granted : 0 < size → one_bit alignment ≡ true → 0 < free_handle blocks → 0 < lowest_address heap blocks size alignment
-      → with_handle (free_handle blocks) (new_block (lowest_address heap blocks size alignment) size alignment flags) ≡ allocation heap blocks size alignment flags
+      → with_handle (free_handle blocks) (new_block (lowest_address heap blocks size alignment) size alignment flags)
+      ≡ allocation heap blocks size alignment flags
   unfolding grants allocation
   is_granted p o h a = rw (lt-ltb 0 size p, o, lt-ltb 0 (free_handle blocks) h, lt-ltb 0 (lowest_address heap blocks size alignment) a)
 
