@@ -7,7 +7,6 @@ use message::builder;
 use message::builder::{Built, Cursor};
 use message::lister::list;
 use std::io;
-use words::numbers::put_u32;
 
 fn add_empty(buffer: &mut [u8], cursor: Cursor) -> Built {
     builder::add(buffer, cursor, 1, 0, &[])
@@ -51,17 +50,13 @@ pub fn largest_served(rt: &impl Print) -> io::Result<()>
 
 // The cursor behind a tag whose value and request are one word.
 fn add_word(buffer: &mut [u8], cursor: Cursor, id: u32, a: u32) -> Cursor {
-    let mut request = [0u8; 4];
-    put_u32(&mut request, 0, a);
-    builder::add(buffer, cursor, id, 4, &request).cursor
+    builder::add(buffer, cursor, id, 4, &a.to_le_bytes()).cursor
 }
 
 // The cursor behind a tag whose value and request are two words.
 fn add_pair(buffer: &mut [u8], cursor: Cursor, id: u32, a: u32, b: u32) -> Cursor {
-    let mut request = [0u8; 8];
-    put_u32(&mut request, 0, a);
-    put_u32(&mut request, 4, b);
-    builder::add(buffer, cursor, id, 8, &request).cursor
+    let request = [a.to_le_bytes(), b.to_le_bytes()];
+    builder::add(buffer, cursor, id, 8, request.as_flattened()).cursor
 }
 
 // The request of 80 bytes that sets 640 x 480 at depth 24, in a buffer of 84 other bytes.

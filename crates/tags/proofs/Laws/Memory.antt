@@ -227,7 +227,7 @@ module _ (heap : Span) (blocks : List Block) (size alignment : ℕ) (v : valid_h
   from_base : heap.base ≤ a
   from_base = omega (arith, s.least, up_above alignment heap.base (one_bit_least alignment o))
 
-  address_found : a + size ≤ heap.base + heap.size → {r : ℕ} → Raised blocks a size alignment r → r ≡ a → a ≡ lowest_address heap blocks size alignment
+  pub address_found : a + size ≤ heap.base + heap.size → {r : ℕ} → Raised blocks a size alignment r → r ≡ a → a ≡ lowest_address heap blocks size alignment
   unfolding lowest_address
   address_found l w e =
       let k = heap_is heap v in
