@@ -35,7 +35,7 @@ pub fn put_nothing(msg: &mut [u8], tag: Tag)
     put_bytes(msg, Tag { size: 0, ..tag }, &[]);
 }
 
-// Answers the tag with a word.
+// Answers the tag with a word. This and the next ones are one line each, for the bytes of their numbers.
 pub fn put_word(msg: &mut [u8], tag: Tag, n: u32)
     requires { InMessage (length msg.old) tag.at tag.size }
     ensures { msg.new ≡ answered tag.at tag.size (le 4 n) msg.old }

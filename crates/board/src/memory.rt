@@ -38,7 +38,7 @@ pub fn are_apart(base: u64, size: u32, t: Span) -> bool
     base + size as u64 <= t.base as u64 || t.end() <= base || size == 0 || t.size == 0
 }
 
-// Whether a run of memory has no byte of the block at a place. No entry point: for a base below 2^36.
+// Whether a run of memory has no byte of a block. No entry point: for a base below 2^36.
 #[tactic(auto, unfolding(crate::specs::Memory::clear_of))]
 pub fn is_clear_of(base: u64, size: u32, b: Block) -> bool
     requires { base < 0x10_0000_0000 }

@@ -29,6 +29,7 @@ fn say(rt: &impl Eprint, what: &[u8], reason: &str) -> io::Result<()> {
 pub fn fail(rt: &impl Eprint, what: &[u8], error: io::Error)
     ensures { result ≡ tt }
 {
+    // Fixed memory: no heap.
     let mut text = [0u8; 256];
     let mut room = &mut text[..];
     let _ = write!(room, "{error}");

@@ -24,6 +24,8 @@ pub struct Decision {
     pub display: Display,
 }
 
+// The functions below are given a display and an operation: each is a struct, and a pair of both would say no more.
+
 // The buffer that an operation places, and the one that stands afterwards.
 #[derive(Clone, Copy)]
 struct Buffers {
@@ -117,11 +119,7 @@ pub fn leave(d: ValidDisplay) -> Decision
 fn test(d: ValidDisplay, o: Operation) -> Decision
     ensures { result ≡ tested (supported_from d.display o.proposal) d.display o }
 {
-    let shown = match proposed(d, o) {
-        Some(proposal) => proposal,
-        None => d.settings(),
-    };
-    show(shown, d.display)
+    show(proposed(d, o).unwrap_or(d.settings()), d.display)
 }
 
 // The decision on sets and gets that are accepted.
@@ -146,6 +144,7 @@ fn accept(d: ValidDisplay, o: Operation) -> Option<Decision>
 fn carry_out(d: ValidDisplay, o: Operation) -> Decision
     ensures { result ≡ carried_out (accepted d.display o) d.display o }
 {
+    // By hand: with `unwrap_or` the proof did not close.
     match accept(d, o) {
         Some(decision) => decision,
         None => show(d.settings(), d.display),

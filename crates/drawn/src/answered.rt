@@ -1,5 +1,5 @@
 // Messages that are served, and what they hold afterwards.
-ghost use Rattle.std.specs.Prelude.{◌≡◌, IfOk};
+ghost use Rattle.std.specs.Prelude.{◌≡◌, ◌<◌, IfOk, length};
 ghost use Rattle.board.specs.Bench.{bench};
 ghost use Rattle.responder.specs.Reply.{reply};
 
@@ -35,17 +35,15 @@ pub fn serve_and_draw(
 pub fn eleven(rt: &impl Print) -> io::Result<()>
     ensures { IfOk result (λ u. u ≡ tt) }
 {
-    let mut lent = [0u8; 11];
-    lent[0] = 12;
-    serve_and_draw(rt, b"lent 11", bench_record(), &mut lent)?;
-    Ok(())
+    serve_empty(rt, b"lent 11", bench_record(), &mut [0; 11])
 }
 
-// A message of no tags.
-fn serve_empty(rt: &impl Print, name: &[u8], board: Board) -> io::Result<()> {
-    let mut lent = [0u8; 12];
+// A message of no tags, in these bytes.
+fn serve_empty(rt: &impl Print, name: &[u8], board: Board, lent: &mut [u8]) -> io::Result<()>
+    requires { 0 < length lent.old }
+{
     lent[0] = 12;
-    serve_and_draw(rt, name, board, &mut lent)?;
+    serve_and_draw(rt, name, board, lent)?;
     Ok(())
 }
 
@@ -55,7 +53,7 @@ pub fn invalid(rt: &impl Print) -> io::Result<()>
 {
     let mut board = bench_record();
     board.facts.dma = 0x1_0000;
-    serve_empty(rt, b"record not valid", board)
+    serve_empty(rt, b"record not valid", board, &mut [0; 12])
 }
 
 // A record that shows 800 columns of a virtual picture of 800, from column 799 on.
@@ -64,7 +62,7 @@ pub fn beyond_picture(rt: &impl Print) -> io::Result<()>
 {
     let mut board = bench_record();
     board.display.settings.offset.x = 799;
-    serve_empty(rt, b"record with offset 799 of 800", board)
+    serve_empty(rt, b"record with offset 799 of 800", board, &mut [0; 12])
 }
 
 // A message of no tags with this size word, in 65,540 bytes.

@@ -7,10 +7,15 @@ use message::lister::Listed;
 use message::reader::Reading;
 use std::io;
 
+// The name, and the outcome by its number, of a line that goes on.
+fn begin(rt: &impl Print, name: &str, outcome: u32, place: usize) -> io::Result<()> {
+    print!(rt; "{name}: outcome {outcome} place {place}")
+}
+
 pub fn of_listed(rt: &impl Print, name: &str, r: Listed) -> io::Result<()>
     ensures { IfOk result (λ u. u ≡ tt) }
 {
-    print!(rt; "{name}: outcome {} place {}", r.outcome, r.place)?;
+    begin(rt, name, r.outcome, r.place)?;
     print!(rt; " id {:08x} size {:08x} word {:08x}", r.id, r.size, r.word)?;
     println!(rt; " value at {}", r.value)
 }
@@ -18,7 +23,7 @@ pub fn of_listed(rt: &impl Print, name: &str, r: Listed) -> io::Result<()>
 pub fn of_reading(rt: &impl Print, name: &str, r: Reading) -> io::Result<()>
     ensures { IfOk result (λ u. u ≡ tt) }
 {
-    print!(rt; "{name}: outcome {} place {}", r.outcome, r.place)?;
+    begin(rt, name, r.outcome, r.place)?;
     println!(rt;
         " length {} value at {} count {}",
         r.total, r.value, r.count
@@ -28,18 +33,18 @@ pub fn of_reading(rt: &impl Print, name: &str, r: Reading) -> io::Result<()>
 pub fn of_built(rt: &impl Print, name: &str, r: Built) -> io::Result<()>
     ensures { IfOk result (λ u. u ≡ tt) }
 {
-    print!(rt; "{name}: outcome {} place {}", r.outcome, r.place)?;
+    begin(rt, name, r.outcome, r.place)?;
     println!(rt; " cursor {}", r.cursor.at)
 }
 
 pub fn of_finished(rt: &impl Print, name: &str, r: Finished) -> io::Result<()>
     ensures { IfOk result (λ u. u ≡ tt) }
 {
-    print!(rt; "{name}: outcome {} place {}", r.outcome, r.place)?;
+    begin(rt, name, r.outcome, r.place)?;
     println!(rt; " size {}", r.size)
 }
 
-// The name of a message that is served may come from the input, and need not be text.
+// The outcome by its number. The name of a message that is served may come from the input, and need not be text.
 pub fn of_served(rt: &impl Print, name: &[u8], outcome: u32, place: usize) -> io::Result<()>
     ensures { IfOk result (λ u. u ≡ tt) }
 {

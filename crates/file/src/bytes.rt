@@ -8,7 +8,7 @@ use message::opening::Message;
 use message::outcome::{self, Refusal};
 use responder::respond::respond;
 
-// Serves the bytes of a file in place, and gives the outcome. More bytes than a message may have
+// Serves the bytes of a file in place, and gives the outcome by its number, which is what is printed. More bytes than a message may have
 // stay as they are.
 #[tactic(auto, unfolding(crate::specs::Filed::filed))]
 pub fn serve_bytes(bytes: &mut [u8]) -> u32
@@ -20,7 +20,7 @@ pub fn serve_bytes(bytes: &mut [u8]) -> u32
     respond(bench_record(), bytes).outcome
 }
 
-// Whether the bytes can have changed under this outcome: all was done, or a fault cut it short.
+// Whether the bytes can have changed under the outcome of this number: all was done, or a fault cut it short.
 #[tactic(auto, unfolding(crate::specs::Filed::rewrites))]
 pub fn is_rewritten(outcome: u32) -> bool
     ensures { result ≡ rewrites outcome }

@@ -67,7 +67,7 @@ fn serve_read(rt: &impl Files, path: &str, bytes: &mut [u8]) -> io::Result<u32> 
     Ok(outcome)
 }
 
-// Serves the file, and gives the outcome. It is read no further than shows that it is above the most
+// Serves the file, and gives the outcome by its number. It is read no further than shows that it is above the most
 // bytes of a message.
 fn serve_path(rt: &impl Files, path: &[u8]) -> io::Result<u32> {
     let path = as_text(path)?;

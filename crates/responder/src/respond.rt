@@ -29,6 +29,7 @@ pub struct Served {
     pub board: Board,
 }
 
+// The refusal by its number, as every answer has it.
 fn refused(refusal: Refusal, board: Board) -> Served
     ensures { result ≡ record { outcome = number_of refusal; place = 0; board = board } }
 {
@@ -39,7 +40,7 @@ fn refused(refusal: Refusal, board: Board) -> Served
     }
 }
 
-// The decision on the group's operation; after a fault the group is left alone.
+// The decision on the group's operation; after a fault, which the outcome's number tells, the group is left alone.
 fn group_of(d: ValidDisplay, outcome: u32, o: Operation) -> Decision
     ensures { result ≡ group_by (eqb outcome done) d.display o }
 {
@@ -51,7 +52,7 @@ fn group_of(d: ValidDisplay, outcome: u32, o: Operation) -> Decision
 }
 
 // Answers the group's tags in a second walk, where the decision says so. The others carry bit 31 by
-// then and are passed over.
+// then and are passed over. That the heap is valid is asked of the record, as by the walk.
 fn answer_group(board: Board, msg: &mut [u8], size: usize, group: Decision)
     requires { (Walking msg.old size header) × (valid_heap board.heap ≡ true) }
     ensures { msg.new ≡ group_served group board msg.old size }
@@ -61,6 +62,7 @@ fn answer_group(board: Board, msg: &mut [u8], size: usize, group: Decision)
     }
 }
 
+// The code word of a reply, by the outcome's number.
 fn code_of(outcome: u32) -> u32
     ensures { result ≡ code_of outcome }
 {

@@ -1,5 +1,5 @@
-// The walk over a message that serves its tags. The record is the loop's own variable, and only one
-// item of it goes through a call.
+// The walk over a message that serves its tags. The record is the loop's own variable, and no call
+// takes or gives the whole of it.
 ghost use Rattle.std.specs.Prelude.{true, ◌≡◌};
 ghost use Rattle.message.specs.Builder.{leaves};
 ghost use Rattle.message.specs.Outcomes.{short_request};

@@ -10,8 +10,8 @@ use message::walk::Tag;
 use table::kinds::FactTag;
 use words::bytes::prefix;
 
-// Answers a tag with a fact; `line` is the record's command line, of
-// whose 256 bytes `characters` count. No entry point: the walk above has found the tag in the message.
+// Answers a tag with a fact; `line` is the record's command line, of whose 256 bytes `characters` count. No entry
+// point: the walk above has found the tag in the message.
 #[tactic(auto, unfolding(crate::specs::Fact::fact_answer))]
 pub fn put_fact(msg: &mut [u8], tag: Tag, f: Facts, line: &[u8], fact: FactTag)
     requires { InMessage (length msg.old) tag.at tag.size }

@@ -32,7 +32,7 @@ fn new_block(base: u32, size: u32, alignment: u32, flags: u32) -> Block
     }
 }
 
-// The address; or, where the block at a place is in the way of `size` bytes from it on, the lowest multiple of the
+// The address; or, where a block is in the way of `size` bytes from it on, the lowest multiple of the
 // alignment behind the block.
 fn raised_over(b: Block, address: u64, size: u32, alignment: Alignment) -> u64
     requires { address < 0x3_0000_0000 }
@@ -57,7 +57,7 @@ fn raised_over_all(blocks: &[Block; 32], address: u64, size: u32, alignment: Ali
     a
 }
 
-// The lowest place that is free.
+// The lowest place that is free, of the 32 that the handles name.
 fn lowest_free_place(blocks: &[Block; 32]) -> Option<usize>
     ensures { result ≡ position (λ b. not b.taken) blocks.now }
 {
@@ -65,7 +65,7 @@ fn lowest_free_place(blocks: &[Block; 32]) -> Option<usize>
 }
 
 // What an allocate comes to: the lowest free place, and the lowest multiple of the alignment in the heap, raised until
-// nothing is in the way. No entry point: for a valid heap.
+// nothing is in the way. No entry point: for a valid heap, which the walk knows by its record.
 pub fn allocate(
     heap: Span,
     blocks: &[Block; 32],

@@ -30,9 +30,8 @@ pub fn item_place(tag: OutsideTag, id: u32) -> Option<usize>
     }
 }
 
-// Answers a tag of an id that is not listed: with the value of an absent
-// item, or as of an unknown handle. A fact, the temperature and an allocate are always listed. No entry point: the
-// walk above has found the tag in the message.
+// Answers a tag of an id that is not listed: with the value of an absent item, or as of an unknown handle. A fact, the
+// temperature and an allocate are always listed. No entry point: the walk above has found the tag in the message.
 pub fn put_absent(msg: &mut [u8], tag: Tag, outside: OutsideTag, id: u32)
     requires { InMessage (length msg.old) tag.at tag.size }
     ensures { msg.new ≡ answered tag.at tag.size (absent_answer outside id) msg.old }
