@@ -8,8 +8,8 @@ use message::opening::Message;
 use message::outcome::{self, Refusal};
 use responder::respond::respond;
 
-// Serves the bytes of a file in place, and gives the outcome by its number, which is what is printed. More bytes than a message may have
-// stay as they are.
+// Serves the bytes of a file in place, and gives the outcome by its number, which is what is printed. More bytes than a
+// message may have stay as they are.
 #[tactic(auto, unfolding(crate::specs::Filed::filed))]
 pub fn serve_bytes(bytes: &mut [u8]) -> u32
     ensures { leaves bytes.new result ≡ filed bytes.old }
