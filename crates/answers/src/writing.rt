@@ -43,13 +43,12 @@ pub fn put_word(msg: &mut [u8], tag: Tag, n: u32)
     put_bytes(msg, tag, &n.to_le_bytes());
 }
 
-// Answers the tag with two words.
+// Answers the tag with two words: as one number of 64 bits they are stored at once.
 pub fn put_pair(msg: &mut [u8], tag: Tag, a: u32, b: u32)
     requires { InMessage (length msg.old) tag.at tag.size }
     ensures { msg.new ≡ answered tag.at tag.size (two_words a b) msg.old }
 {
-    let words = [a.to_le_bytes(), b.to_le_bytes()];
-    put_bytes(msg, tag, words.as_flattened());
+    put_long(msg, tag, a as u64 + 0x1_0000_0000 * b as u64);
 }
 
 // Answers the tag with a number of 64 bits.

@@ -81,7 +81,7 @@ pub fn serve_largest(rt: &impl Print, bytes: &mut [u8]) -> io::Result<()>
 {
     let served = respond(bench_record(), bytes);
     lines::of_served(rt, b"5460 tags served", served.outcome, served.place)?;
-    lines::of_listed(rt, "tag 0", list(bytes, 0))?;
-    lines::of_listed(rt, "tag 5459", list(bytes, 5459))?;
-    lines::of_listed(rt, "tag 5460", list(bytes, 5460))
+    lines::of_listed(rt, b"tag 0", list(bytes, 0))?;
+    lines::of_listed(rt, b"tag 5459", list(bytes, 5459))?;
+    lines::of_listed(rt, b"tag 5460", list(bytes, 5460))
 }

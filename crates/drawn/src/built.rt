@@ -27,14 +27,14 @@ pub fn largest_request(rt: &impl Print) -> io::Result<()>
 {
     let mut buffer = [0xAAu8; 65540];
     let first = builder::start(&buffer);
-    lines::of_built(rt, "start", first)?;
+    lines::of_built(rt, b"start", first)?;
     let full = add_many(&mut buffer, first, 5460);
-    lines::of_built(rt, "5460 tags", full)?;
+    lines::of_built(rt, b"5460 tags", full)?;
     let more = add_empty(&mut buffer, full.cursor);
-    lines::of_built(rt, "one tag more", more)?;
-    lines::of_finished(rt, "finished", builder::finish(&mut buffer, full.cursor))?;
-    lines::of_listed(rt, "tag 5459", list(&buffer, 5459))?;
-    lines::of_listed(rt, "tag 5460", list(&buffer, 5460))
+    lines::of_built(rt, b"one tag more", more)?;
+    lines::of_finished(rt, b"finished", builder::finish(&mut buffer, full.cursor))?;
+    lines::of_listed(rt, b"tag 5459", list(&buffer, 5459))?;
+    lines::of_listed(rt, b"tag 5460", list(&buffer, 5460))
 }
 
 // The same in 65,536 bytes, served.
@@ -68,7 +68,7 @@ pub fn screen_request(rt: &impl Print) -> io::Result<()>
     let physical = add_pair(&mut buffer, first, 0x0004_8003, 640, 480);
     let shown = add_pair(&mut buffer, physical, 0x0004_8004, 640, 480);
     let depth = add_word(&mut buffer, shown, 0x0004_8005, 24);
-    lines::of_finished(rt, "640 x 480 x 24", builder::finish(&mut buffer, depth))?;
+    lines::of_finished(rt, b"640 x 480 x 24", builder::finish(&mut buffer, depth))?;
     print_words(rt, &buffer)
 }
 
@@ -77,32 +77,32 @@ pub fn refused_calls(rt: &impl Print) -> io::Result<()>
     ensures { IfOk result (λ u. u ≡ tt) }
 {
     let mut buffer = [0u8; 48];
-    lines::of_built(rt, "start in 15", builder::start(&buffer[..15]))?;
-    lines::of_built(rt, "start in 16", builder::start(&buffer[..16]))?;
-    add_at(rt, "cursor 4", &mut buffer, 4, 1, 0)?;
-    add_at(rt, "cursor 10", &mut buffer, 10, 1, 0)?;
-    add_at(rt, "cursor 52 of 48", &mut buffer, 52, 0, 0)?;
-    add_at(rt, "id 0", &mut buffer, 8, 0, 4)?;
-    add_at(rt, "value shorter than its request", &mut buffer, 8, 1, 3)?;
+    lines::of_built(rt, b"start in 15", builder::start(&buffer[..15]))?;
+    lines::of_built(rt, b"start in 16", builder::start(&buffer[..16]))?;
+    add_at(rt, b"cursor 4", &mut buffer, 4, 1, 0)?;
+    add_at(rt, b"cursor 10", &mut buffer, 10, 1, 0)?;
+    add_at(rt, b"cursor 52 of 48", &mut buffer, 52, 0, 0)?;
+    add_at(rt, b"id 0", &mut buffer, 8, 0, 4)?;
+    add_at(rt, b"value shorter than its request", &mut buffer, 8, 1, 3)?;
     add_at(
         rt,
-        "value of 0xffffffff bytes",
+        b"value of 0xffffffff bytes",
         &mut buffer,
         8,
         1,
         0xffff_ffff,
     )?;
-    add_at(rt, "value of 25 bytes", &mut buffer, 8, 1, 25)?;
-    add_at(rt, "value of 24 bytes", &mut buffer, 8, 1, 24)?;
-    finish_at(rt, "finish at 4", &mut buffer, 4)?;
-    finish_at(rt, "finish at 48", &mut buffer, 48)?;
-    finish_at(rt, "finish at 44", &mut buffer, 44)?;
+    add_at(rt, b"value of 25 bytes", &mut buffer, 8, 1, 25)?;
+    add_at(rt, b"value of 24 bytes", &mut buffer, 8, 1, 24)?;
+    finish_at(rt, b"finish at 4", &mut buffer, 4)?;
+    finish_at(rt, b"finish at 48", &mut buffer, 48)?;
+    finish_at(rt, b"finish at 44", &mut buffer, 44)?;
     print_words(rt, &buffer)
 }
 
 fn add_at(
     rt: &impl Print,
-    name: &str,
+    name: &[u8],
     buffer: &mut [u8],
     at: usize,
     id: u32,
@@ -115,6 +115,6 @@ fn add_at(
     )
 }
 
-fn finish_at(rt: &impl Print, name: &str, buffer: &mut [u8], at: usize) -> io::Result<()> {
+fn finish_at(rt: &impl Print, name: &[u8], buffer: &mut [u8], at: usize) -> io::Result<()> {
     lines::of_finished(rt, name, builder::finish(buffer, Cursor { at }))
 }

@@ -26,7 +26,7 @@ fn question(id: u32, occurrence: usize, wanted: usize) -> Question {
 // One kept message is asked for two tags.
 fn draw_two(
     rt: &impl Print,
-    name: &str,
+    name: &[u8],
     bytes: &[u8],
     one: Question,
     other: Question,
@@ -52,28 +52,28 @@ fn draw_whole(
 fn draw_readings(rt: &impl Print, bytes: &[u8]) -> io::Result<()> {
     draw_two(
         rt,
-        "MAC address, model",
+        b"MAC address, model",
         bytes,
         question(ids::MAC_ADDRESS, 0, 6),
         question(ids::MODEL, 0, 4),
     )?;
     draw_two(
         rt,
-        "second MAC address, 4 and 6 bytes",
+        b"second MAC address, 4 and 6 bytes",
         bytes,
         question(ids::MAC_ADDRESS, 1, 4),
         question(ids::MAC_ADDRESS, 1, 6),
     )?;
     draw_two(
         rt,
-        "third MAC address, revision",
+        b"third MAC address, revision",
         bytes,
         question(ids::MAC_ADDRESS, 2, 0),
         question(ids::REVISION, 0, 0),
     )?;
     draw_two(
         rt,
-        "unknown tag, id 0",
+        b"unknown tag, id 0",
         bytes,
         question(ids::UNKNOWN, 0, 0),
         question(0, 0, 0),
@@ -87,14 +87,14 @@ fn draw_readings(rt: &impl Print, bytes: &[u8]) -> io::Result<()> {
 fn draw_line(rt: &impl Print, bytes: &[u8]) -> io::Result<()> {
     draw_two(
         rt,
-        "command line, 0 and 51 bytes",
+        b"command line, 0 and 51 bytes",
         bytes,
         question(ids::COMMAND_LINE, 0, 0),
         question(ids::COMMAND_LINE, 0, 51),
     )?;
     draw_two(
         rt,
-        "command line, 52 and 64 bytes",
+        b"command line, 52 and 64 bytes",
         bytes,
         question(ids::COMMAND_LINE, 0, 52),
         question(ids::COMMAND_LINE, 0, 64),
@@ -116,10 +116,10 @@ pub fn cases(rt: &impl Print) -> io::Result<()>
     let model = add_tag(&mut buffer, short, ids::MODEL, 4);
     let unknown = add_tag(&mut buffer, model, ids::UNKNOWN, 0);
     let line = add_tag(&mut buffer, unknown, ids::COMMAND_LINE, 64);
-    lines::of_finished(rt, "to be kept", builder::finish(&mut buffer, line))?;
+    lines::of_finished(rt, b"to be kept", builder::finish(&mut buffer, line))?;
     draw_two(
         rt,
-        "not served",
+        b"not served",
         &buffer,
         question(ids::MAC_ADDRESS, 0, 6),
         question(ids::MODEL, 0, 4),

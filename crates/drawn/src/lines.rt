@@ -7,12 +7,13 @@ use message::lister::Listed;
 use message::reader::Reading;
 use std::io;
 
-// The name, and the outcome by its number, of a line that goes on.
-fn begin(rt: &impl Print, name: &str, outcome: u32, place: usize) -> io::Result<()> {
-    print!(rt; "{name}: outcome {outcome} place {place}")
+// The name, which may come from the input and need not be text, and the outcome by its number, of a line that goes on.
+fn begin(rt: &impl Print, name: &[u8], outcome: u32, place: usize) -> io::Result<()> {
+    rt.write_all(name)?;
+    print!(rt; ": outcome {outcome} place {place}")
 }
 
-pub fn of_listed(rt: &impl Print, name: &str, r: Listed) -> io::Result<()>
+pub fn of_listed(rt: &impl Print, name: &[u8], r: Listed) -> io::Result<()>
     ensures { IfOk result (λ u. u ≡ tt) }
 {
     begin(rt, name, r.outcome, r.place)?;
@@ -20,7 +21,7 @@ pub fn of_listed(rt: &impl Print, name: &str, r: Listed) -> io::Result<()>
     println!(rt; " value at {}", r.value)
 }
 
-pub fn of_reading(rt: &impl Print, name: &str, r: Reading) -> io::Result<()>
+pub fn of_reading(rt: &impl Print, name: &[u8], r: Reading) -> io::Result<()>
     ensures { IfOk result (λ u. u ≡ tt) }
 {
     begin(rt, name, r.outcome, r.place)?;
@@ -30,26 +31,25 @@ pub fn of_reading(rt: &impl Print, name: &str, r: Reading) -> io::Result<()>
     )
 }
 
-pub fn of_built(rt: &impl Print, name: &str, r: Built) -> io::Result<()>
+pub fn of_built(rt: &impl Print, name: &[u8], r: Built) -> io::Result<()>
     ensures { IfOk result (λ u. u ≡ tt) }
 {
     begin(rt, name, r.outcome, r.place)?;
     println!(rt; " cursor {}", r.cursor.at)
 }
 
-pub fn of_finished(rt: &impl Print, name: &str, r: Finished) -> io::Result<()>
+pub fn of_finished(rt: &impl Print, name: &[u8], r: Finished) -> io::Result<()>
     ensures { IfOk result (λ u. u ≡ tt) }
 {
     begin(rt, name, r.outcome, r.place)?;
     println!(rt; " size {}", r.size)
 }
 
-// The outcome by its number. The name of a message that is served may come from the input, and need not be text.
 pub fn of_served(rt: &impl Print, name: &[u8], outcome: u32, place: usize) -> io::Result<()>
     ensures { IfOk result (λ u. u ≡ tt) }
 {
-    rt.write_all(name)?;
-    println!(rt; ": outcome {outcome} place {place}")
+    begin(rt, name, outcome, place)?;
+    println!(rt)
 }
 
 // The settings, and the buffer's base and size.

@@ -11,26 +11,28 @@ use words::numbers::put_u32;
 pub fn cases(rt: &impl Print) -> io::Result<()>
     ensures { IfOk result (λ u. u ≡ tt) }
 {
-    let lent = [0u8; 12];
-    lines::of_listed(rt, "lent 0", list(&lent[..0], 0))?;
-    lines::of_listed(rt, "lent 11", list(&lent[..11], 0))?;
-    sized(rt, "size 8", &mut [0; 12], 8)?;
-    sized(rt, "size 12", &mut [0; 12], 12)?;
-    sized(rt, "size 14", &mut [0; 12], 14)?;
-    sized(rt, "size 16 of 12 lent", &mut [0; 12], 16)?;
-    sized(rt, "size 65532", &mut [0; 65540], 65532)?;
-    sized(rt, "size 65536", &mut [0; 65540], 65536)?;
-    sized(rt, "size 65540", &mut [0; 65540], 65540)?;
-    tag_value(rt, "no end", 1, 4)?;
-    tag_value(rt, "end", 0, 4)?;
-    tag_value(rt, "value of 0xfffffffd bytes", 1, 0xffff_fffd)?;
-    tag_value(rt, "value of 0xffffffff bytes", 1, 0xffff_ffff)?;
-    tag_value(rt, "value of 5 bytes in 4", 1, 5)?;
-    tag_value(rt, "value of 3 bytes in 4", 1, 3)
+    // The bytes of all cases, made once.
+    let mut short = [0; 12];
+    let mut long = [0; 65540];
+    lines::of_listed(rt, b"lent 0", list(&short[..0], 0))?;
+    lines::of_listed(rt, b"lent 11", list(&short[..11], 0))?;
+    sized(rt, b"size 8", &mut short, 8)?;
+    sized(rt, b"size 12", &mut short, 12)?;
+    sized(rt, b"size 14", &mut short, 14)?;
+    sized(rt, b"size 16 of 12 lent", &mut short, 16)?;
+    sized(rt, b"size 65532", &mut long, 65532)?;
+    sized(rt, b"size 65536", &mut long, 65536)?;
+    sized(rt, b"size 65540", &mut long, 65540)?;
+    tag_value(rt, b"no end", 1, 4)?;
+    tag_value(rt, b"end", 0, 4)?;
+    tag_value(rt, b"value of 0xfffffffd bytes", 1, 0xffff_fffd)?;
+    tag_value(rt, b"value of 0xffffffff bytes", 1, 0xffff_ffff)?;
+    tag_value(rt, b"value of 5 bytes in 4", 1, 5)?;
+    tag_value(rt, b"value of 3 bytes in 4", 1, 3)
 }
 
 // Bytes with this size word: the tag of index 0.
-fn sized(rt: &impl Print, name: &str, lent: &mut [u8], size: u32) -> io::Result<()>
+fn sized(rt: &impl Print, name: &[u8], lent: &mut [u8], size: u32) -> io::Result<()>
     requires { 4 ≤ length lent.old }
 {
     put_u32(lent, 0, size);
@@ -39,7 +41,7 @@ fn sized(rt: &impl Print, name: &str, lent: &mut [u8], size: u32) -> io::Result<
 
 // A message of 36 bytes, whose first tag has no value, and whose second has this id and value size
 // and takes up the rest: the tags of index 0, 1 and 2.
-fn tag_value(rt: &impl Print, name: &str, id: u32, size: u32) -> io::Result<()> {
+fn tag_value(rt: &impl Print, name: &[u8], id: u32, size: u32) -> io::Result<()> {
     let mut lent = [0u8; 36];
     let second = Message::HEADER + Message::TAG;
     put_u32(&mut lent, 0, 36);

@@ -70,10 +70,10 @@ fn serve_read(rt: &impl Files, path: &str, bytes: &mut [u8]) -> io::Result<u32> 
 // Serves the file, and gives the outcome by its number. It is read no further than shows that it is above the most
 // bytes of a message.
 fn serve_path(rt: &impl Files, path: &[u8]) -> io::Result<u32> {
+    // Fixed memory: no heap. It stands first: behind a `?` it is cleared twice.
+    let mut buffer = [0u8; Message::MAX + 1];
     let path = as_text(path)?;
     let mut file = fs::open(rt, path)?;
-    // Fixed memory: no heap.
-    let mut buffer = [0u8; Message::MAX + 1];
     let n = read_full(&mut file, &mut buffer);
     if n <= Message::MAX {
         check_end(&mut file)?;

@@ -5,3 +5,4 @@ pub mod AnswerFits
 pub mod Places
 pub mod ServesOutside
 pub mod Memory
+pub mod Offsets

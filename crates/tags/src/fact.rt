@@ -21,7 +21,11 @@ pub fn put_fact(msg: &mut [u8], tag: Tag, f: Facts, line: &[u8], fact: FactTag)
         FactTag::Firmware => put_word(msg, tag, f.firmware),
         FactTag::Model => put_word(msg, tag, f.model),
         FactTag::Revision => put_word(msg, tag, f.revision),
-        FactTag::Mac => put_bytes(msg, tag, &f.mac),
+        FactTag::Mac => {
+            // Copied out, so that the other facts are not.
+            let mac = f.mac;
+            put_bytes(msg, tag, &mac);
+        }
         FactTag::Serial => put_long(msg, tag, f.serial),
         FactTag::Arm => put_pair(msg, tag, f.arm.base, f.arm.size),
         FactTag::Vc => put_pair(msg, tag, f.vc.base, f.vc.size),

@@ -80,8 +80,12 @@ pub fn allocate(
         return None;
     }
     let alignment = Alignment::new(alignment)?;
-    let place = lowest_free_place(blocks)?;
     let mut a = alignment.lowest_multiple(heap.base as u64);
+    // Where the heap as a whole has no room, the places need no look.
+    if heap.end() < a + size as u64 {
+        return None;
+    }
+    let place = lowest_free_place(blocks)?;
     while a + size as u64 <= heap.end() {
         let raised = raised_over_all(blocks, a, size, alignment);
         if raised == a {

@@ -37,8 +37,8 @@ impl Alignment {
         address.is_multiple_of(self.value)
     }
 
-    // The lowest multiple of the alignment at or above the address, which is the sum of two words at most: the
-    // multiple may pass 2^32.
+    // The lowest multiple of the alignment at or above the address: it may pass 2^32. No entry point: for an address
+    // that is the sum of two words at most.
     pub fn lowest_multiple(self, address: u64) -> u64
         requires { address < 0x2_0000_0000 }
         ensures { result ≡ round_up self.value address }

@@ -1,6 +1,6 @@
 -- Laws of the decision.
-use Rattle.std.specs.Prelude.{Option, Some, None}
-use mathlib.Core.Bool.{Bool, true, false, and-eq-true_iff}
+use Rattle.std.specs.Prelude.{Option, Some, None, is_some}
+use mathlib.Core.Bool.{Bool, true, false, cond, and-eq-true_iff}
 use mathlib.Core.Path.{◌≡◌, refl, sym, ap, ap₂, ◌∙◌}
 use Prim.Native.Nat.{ℕ, ◌+◌, ◌≤◌}
 use borrow.Author.Tests.{leb-true}
@@ -12,7 +12,7 @@ use Rattle.board.specs.Display.{need, possible, supported, valid_display}
 use Rattle.board.specs.declared.display.Display.{Display}
 use Rattle.board.specs.declared.display.Settings.{Settings}
 use Rattle.board.proofs.Laws.Display.{supported_is, display_parts}
-use Rattle.display.specs.Decision.{supported_from, placed_at, allocatable, fits_buffer, has_buffer, accepted}
+use Rattle.display.specs.Decision.{nowhere, supported_from, placed_at, allocatable, fits_buffer, has_buffer, buffer_placed, buffer_after, accepted}
 use Rattle.display.specs.Decision.{showing, left_alone, tested, carried_out, decided_by, decided}
 use Rattle.display.specs.declared.decision.Decision.{Decision}
 use Rattle.display.specs.declared.operation.Operation.{Operation}
@@ -66,6 +66,13 @@ module _ (d : Display) (o : Operation) where
   pub decided_by_is : {tests others : Bool} → o.tests ≡ tests → o.others ≡ others → decided_by tests others d o ≡ decided d o
   unfolding decided
   decided_by_is t u = sym (ap₂ (λ (x y : Bool). decided_by x y d o) t u)
+
+-- ---- the buffer afterwards, by two tests
+buffer_after_cases : (alignment : Option ℕ) (releases : Bool) (d : Display) (o : Operation)
+    → cond (is_some alignment) (buffer_placed alignment d o) (cond releases nowhere d.buffer) ≡ buffer_after alignment releases d o
+buffer_after_cases (Some alignment) releases d o = refl
+buffer_after_cases None true d o = refl
+buffer_after_cases None false d o = refl
 
 -- ---- what holds of each decision that there is holds of the decision
 module _ (d : Display) (o : Operation) (P : Decision → Type 0) (shows : P (showing d.settings d)) where

@@ -29,6 +29,45 @@ use Rattle.tags.specs.Memory.{with_lock, taken_after, handle_after}
 use Rattle.tags.specs.declared.memory.Granted.{Granted}
 use Rattle.tags.specs.Raised.{raised_over, Raised}
 
+-- ---- the lowest free handle, as a scan finds it: that of the places before i, 0 where all of them are taken
+pub record FirstFree (blocks : List Block) (handle i : ℕ) : Type 0 where
+  pub none_free : handle ≡ 0 → Passed (is_free blocks) 1 (i + 1)
+  pub found : (handle ≡ 0 → ⊥) → handle ≡ free_handle blocks
+
+pub first_start : (blocks : List Block) → FirstFree blocks 0 0
+first_start blocks = record { none_free = λ _ y l _. l; found = λ n. absurd (n refl) }
+
+at_place : (blocks : List Block) (i : ℕ) {t : Bool} → (get_or blocks i no_block).taken ≡ t → is_free blocks (i + 1) ≡ not t
+at_place blocks i e = let z : i + 1 - 1 ≡ i = omega arith in rw z (ap not e)
+
+module _ (blocks : List Block) {handle i : ℕ} (s : FirstFree blocks handle i) where
+  pub first_taken : (get_or blocks i no_block).taken ≡ true → {h : ℕ} → h ≡ handle → FirstFree blocks h (i + 1)
+  first_taken t e = record { none_free = λ z y l f. go y l f (s.none_free (sym e ∙ z)) (ℕ_discrete y (i + 1)); found = λ n. e ∙ s.found (λ z. n (e ∙ z)) }
+    where
+      go : (y : ℕ) → 1 ≤ y → is_free blocks y ≡ true → Passed (is_free blocks) 1 (i + 1) → Dec (y ≡ i + 1) → i + 1 + 1 ≤ y
+      go y l f b (yes q) = absurd (true≢false (sym f ∙ ap (is_free blocks) q ∙ at_place blocks i t))
+      go y l f b (no q) = let k = b y l f in omega arith
+
+  pub first_found : i < 32 → (get_or blocks i no_block).taken ≡ false → handle ≡ 0 → {h : ℕ} → h ≡ i + 1 → FirstFree blocks h (i + 1)
+  unfolding free_handle
+  first_found l t z e =
+      record {
+        none_free = λ n. absurd (omega arith);
+        found = λ _. e
+            ∙ lowest_found (is_free blocks) handle_count 1 (omega arith) (i + 1) (omega arith) (omega arith) (at_place blocks i t) (s.none_free z);
+      }
+
+  pub first_kept : (handle ≡ 0 → ⊥) → {h : ℕ} → h ≡ handle → FirstFree blocks h (i + 1)
+  first_kept n e = record { none_free = λ z. absurd (n (sym e ∙ z)); found = λ _. e ∙ s.found n }
+
+pub first_all : (blocks : List Block) {handle i : ℕ} → FirstFree blocks handle i → 32 ≤ i → handle ≡ free_handle blocks
+unfolding free_handle
+first_all blocks {handle} {i} s l = go (ℕ_discrete handle 0)
+  where
+    go : Dec (handle ≡ 0) → handle ≡ lowest (is_free blocks) handle_count 1
+    go (yes z) = z ∙ lowest_none (is_free blocks) handle_count 1 (omega arith) (λ y k t. let h = s.none_free z y k t in omega arith)
+    go (no n) = s.found n
+
 -- ---- the lowest free handle, by the first place that is free
 abbrev handle_of : (place : Option ℕ) → ℕ
 handle_of (Some i) = i + 1

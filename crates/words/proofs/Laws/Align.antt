@@ -34,6 +34,10 @@ unfolding one_bit
 one_bit_least zero e = absurd (false≢true e)
 one_bit_least (suc a) e = zero-lt-suc a
 
+pub one_bit_one : one_bit 1 ≡ true
+unfolding one_bit ones_in
+one_bit_one = refl
+
 module _ (a b : ℕ) (p : 0 < a) where
   pub up_above : b ≤ round_up a b
   up_above = omega (arith, div-add-mod' (b + (a - 1)) a, mod-lt (b + (a - 1)) p)

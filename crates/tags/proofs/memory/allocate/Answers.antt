@@ -13,6 +13,16 @@ returns-then-size-eq0 c = size_refused _ _ _ _ _ c.if-size-eq0.true
 pub returns-in_err-alignment : goal.returns-in_err-alignment
 returns-in_err-alignment c = c.from_residual.ensures ∙ alignment_refused _ _ _ _ _ (search rules)
 
+pub returns-then-end-a : goal.returns-then-end-a
+returns-then-end-a c =
+    let alignment = c.in_ok-alignment.alignment in
+    let single = alignment.one_bit in
+    let same : alignment.value ≡ c.args.alignment = search rules in
+    rw (← same) (address_refused _ _ _ _ _
+    (address_none _ _ _ _ c.requires (omega (arith, c.if-size-eq0.false)) single c.lowest_multiple-a.ensures
+    (search_start _ _ _ _ single _ c.lowest_multiple-a.ensures (omega (arith, up_below _ c.args.heap.base (one_bit_least _ single))))
+    (omega (arith, c.end.ensures.0, c.if-end-a.true))))
+
 pub returns-in_err-place : goal.returns-in_err-place
 returns-in_err-place c = c.from_residual-in_err-place.ensures ∙ place_refused _ _ _ _ _ (sym (place_found _ (search rules) c.in_err-place.ensures))
 

@@ -1,5 +1,11 @@
-use Rattle.words.proofs.Laws.Parts.{over_first}
+use mathlib.Core.Path.{◌∙◌}
+use native.Mathlib.Omega.{arith}
+use lib.ListN.{length}
+use Rattle.words.proofs.Laws.Store.{over_take}
 use Rattle.words.proofs.bytes.store.Goals as goal
 
-pub returns : goal.returns
-returns c = rw c.copy_from_slice.ensures.after (over_first _ _ _ c.min-count.ensures)
+pub returns-then-source-room : goal.returns-then-source-room
+returns-then-source-room c = c.copy.ensures ∙ over_take (length c.args.source.now) _ _ (omega arith)
+
+pub returns-else-source-room : goal.returns-else-source-room
+returns-else-source-room c = c.copy-else-source-room.ensures ∙ over_take (length c.args.part.now) _ _ (omega arith)
