@@ -4,4 +4,4 @@ use Rattle.message.proofs.builder.put_tag.Goals as goal
 pub returns : goal.returns
 returns c =
     tag_written _ _ _ _ _ _ c.requires c.put_u32.ensures c.put_u32-2.ensures c.put_u32-3.ensures
-    c.store.ensures (c.fill.ensures.after (λ y e. e))
+    c.store.ensures c.clear.ensures
