@@ -1,19 +1,17 @@
 -- Answers written into their tags.
-use mathlib.Core.List.{List, [], ◌++◌, append-nil}
+use mathlib.Core.List.{List, []}
 use mathlib.Core.Path.{◌≡◌, sym, ap, ◌∙◌}
-use Prim.Native.Nat.{ℕ, ◌+◌, ◌-◌, ◌*◌, ◌^◌, ◌≤◌, ◌<◌}
+use Prim.Native.Nat.{ℕ, ◌+◌, ◌-◌, ◌≤◌}
 use native.Mathlib.Omega.{arith}
 use borrow.Rule.Slice.PartMut.{put_mid}
 use lib.ListN.{length, take, drop, length-take}
 use lib.Seq.{take-nil}
-use Rattle.words.proofs.Laws.Numbers.{le_two}
 use Rattle.words.proofs.Laws.Parts.{put_mid_part}
 use Rattle.words.proofs.Laws.Put.{put_nil, put_apart}
 use Rattle.words.specs.Numbers.{le}
 use Rattle.words.specs.Put.{over, put}
 use Rattle.message.specs.Sizes.{tag_header}
 use Rattle.message.specs.Walk.{word_place}
-use Rattle.answers.specs.Answer.{two_words}
 use Rattle.answers.specs.Writing.{answered}
 
 -- ---- the tag word and the value's first bytes
@@ -37,10 +35,6 @@ answered_word_alone at size m =
 -- whatever the size of the value
 pub none_sized : (at size size' : ℕ) (m : List ℕ) → answered at size [] m ≡ answered at size' [] m
 none_sized at size size' m = answered_word_alone at size m ∙ sym (answered_word_alone at size' m)
-
--- ---- two words as one number
-pub pair_is : (a b : ℕ) → a < 2 ^ 32 → le 8 (a + 0x1_0000_0000 * b) ≡ two_words a b
-pair_is a b h = le_two a b h ∙ ap (λ (l : List ℕ). le 4 a ++ l) (sym (append-nil (le 4 b)))
 
 -- ---- answers of tags that stand apart are written in either order
 module _ (at size : ℕ) (x : List ℕ) (at' size' : ℕ) (x' : List ℕ) (apart : at + tag_header + size ≤ at') where
